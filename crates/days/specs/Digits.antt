@@ -1,0 +1,55 @@
+-- Dates as files write them: eight digits, four for the year and two each for month and day. And the way back.
+use mathlib.Core.Path.{_≡_}
+use mathlib.Core.Bool.{Bool, cond, _&&_}
+use mathlib.Core.List.{List, [], _∷_}
+use Prim.Native.Nat.{ℕ, _+_, _-_, _*_}
+use lib.Dec.{leb, eqb}
+use lib.ListN.{length, take, drop}
+use Rattle.std.specs.declared.option.Option.{Option}
+use Rattle.std.specs.declared.option.Option.the-variants.{Some, None}
+use Rattle.std.specs.declared.result.Result.{Result}
+use Rattle.std.specs.declared.result.Result.the-variants.{Ok, Err}
+use Rattle.days.specs.declared.digits.DateFault.{DateFault}
+use Rattle.days.specs.declared.digits.DateFault.the-variants.{Length, NoDigit, NoSuchDay}
+use Rattle.days.specs.Numbers.{In-range}
+use Rattle.days.specs.Gregorian.{day-of-date}
+
+abbrev pub digit : ℕ → Bool
+digit b = leb 48 b && leb b 57
+
+-- the place of the first byte that is no digit, counted from i
+abbrev pub first-other : ℕ → List ℕ → Option ℕ
+first-other i [] = None
+first-other i (b ∷ bs) = cond (digit b) (first-other (i + 1) bs) (Some i)
+
+-- the number that digits write after those of n
+abbrev pub written-after : ℕ → List ℕ → ℕ
+written-after n [] = n
+written-after n (b ∷ bs) = written-after (n * 10 + (b - 48)) bs
+
+abbrev pub year-of : List ℕ → ℕ
+year-of bs = written-after 0 (take 4 bs)
+
+abbrev pub month-of : List ℕ → ℕ
+month-of bs = written-after 0 (take 2 (drop 4 bs))
+
+abbrev pub day-of : List ℕ → ℕ
+day-of bs = written-after 0 (drop 6 bs)
+
+abbrev pub or-no-such-day : Option ℕ → Result ℕ DateFault
+or-no-such-day (Some n) = Ok n
+or-no-such-day None = Err NoSuchDay
+
+-- the day that eight digits name, unless a byte is no digit
+abbrev pub day-named : Option ℕ → List ℕ → Result ℕ DateFault
+day-named (Some i) bs = Err (NoDigit i)
+day-named None bs = or-no-such-day (day-of-date (year-of bs) (month-of bs) (day-of bs))
+
+-- the day that a text names, or what keeps it from being a real date
+abbrev pub date-read : List ℕ → Result ℕ DateFault
+date-read bs = cond (eqb (length bs) 8) (day-named (first-other 0 bs) bs) (Err Length)
+
+-- the answer is the text of the day n, the one that reads as n, and there is one exactly if n is in the range
+pub record Written (n : ℕ) (r : Option (List ℕ)) : Type 0 where
+  pub reads : (bs : List ℕ) → r ≡ Some bs → In-range n × (date-read bs ≡ Ok n)
+  pub only : (bs : List ℕ) → In-range n → date-read bs ≡ Ok n → r ≡ Some bs

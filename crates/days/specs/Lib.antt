@@ -1,0 +1,4 @@
+pub mod Numbers
+pub mod Months
+pub mod Gregorian
+pub mod Digits

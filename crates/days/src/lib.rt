@@ -1,0 +1,3 @@
+// Day numbers, weekdays, the Gregorian calendar and the eight-digit dates of files.
+pub mod digits;
+pub mod weekday;
