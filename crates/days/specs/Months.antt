@@ -36,3 +36,9 @@ pub record Falls (lengths : List ℕ) (n p d : ℕ) : Type 0 where
 abbrev pub Placed : List ℕ → ℕ → Option (ℕ × ℕ) → Type 0
 Placed lengths n (Some t) = Falls lengths n (t .0) (t .1)
 Placed lengths n None = total lengths ≤ n
+
+-- the answer is how many whole days of the year are past on day d of the month at place p, and none exactly if the year
+-- has no such day
+pub record Counted (lengths : List ℕ) (p d : ℕ) (r : Option ℕ) : Type 0 where
+  pub right : (n : ℕ) → r ≡ Some n → Falls lengths n p d
+  pub only : (n : ℕ) → Falls lengths n p d → r ≡ Some n

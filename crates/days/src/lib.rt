@@ -1,3 +1,4 @@
 // Day numbers, weekdays, the Gregorian calendar and the eight-digit dates of files.
 pub mod digits;
+pub mod months;
 pub mod weekday;
