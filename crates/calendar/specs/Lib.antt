@@ -1,3 +1,4 @@
 pub mod Sheets
 pub mod Laws
 pub mod Shelves
+pub mod Search

@@ -4,8 +4,10 @@ ghost use Rattle.calendar.specs.Sheets.{Almanac, Answered, Dated};
 ghost use Rattle.calendar.specs.Laws.{Lawful};
 ghost use Rattle.calendar.specs.Shelves.{Found};
 
+mod search;
 mod sheet;
 
+pub use search::date_from;
 pub use sheet::MonthCode;
 pub use sheet::Sheet;
 
