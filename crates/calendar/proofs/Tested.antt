@@ -7,14 +7,14 @@ use Prim.Native.Nat.{ℕ, zero, suc, _+_, _-_, _^_, _<_, _≤_}
 use native.Mathlib.Nat.{not-suc-le-zero, le-of-suc-le-suc}
 use native.Mathlib.Numerals.{add-one}
 use native.Mathlib.Omega.{arith}
-use lib.Dec.{leb, eqb}
+use lib.Dec.{leb, ltb, eqb}
 use lib.ListN.{length, getD, drop, replicate, length-drop}
 use lib.Seq.{length-take-le}
 use Rattle.std.specs.shelf.Text.{sameBytes}
 use Rattle.std.specs.shelf.Lists.{All}
 use Rattle.std.proofs.shelf.Elements.{all-getD}
 use Rattle.std.proofs.shelf.Equals.{sameBytes-decides}
-use Rattle.std.proofs.shelf.Tests.{leb-true, eqb-true, and-parts, or-cases, cases-lt, true≢false, both-ways, not-true}
+use Rattle.std.proofs.shelf.Tests.{leb-true, ltb-true, eqb-true, and-parts, or-cases, cases-lt, true≢false, both-ways, not-true}
 use Rattle.days.specs.Months.{length-at}
 use Rattle.calendar.specs.declared.sheet.MonthCode.{MonthCode}
 use Rattle.calendar.specs.declared.sheet.Sheet.{Sheet}
@@ -59,6 +59,9 @@ rest : {X : Type 0} (x : X) (n : ℕ) (xs : List X) → length xs ≡ 13 → All
 rest x n xs e h = repeated x (drop n xs) h ∙ ap (λ m. replicate m x) (length-drop n xs ∙ ap (λ m. m - n) e)
 
 -- The tests of a sheet.
+
+twelve-or : (n : ℕ) → (eqb n 12 || eqb n 13) ≡ true → (n ≡ 12) ⊎ (n ≡ 13)
+twelve-or n t = ⊎-elim (λ x. inl (eqb-true n 12 x)) (λ x. inr (eqb-true n 13 x)) (or-cases (eqb n 12) (eqb n 13) t)
 
 abbrev month-long : ℕ → Bool
 month-long n = leb 1 n && leb n 31
@@ -164,9 +167,7 @@ good leaps top s t =
     let c = eqb-true (length (s .codes)) 13 (t0 .1 .0) in
     let l = eqb-true (length (s .lengths)) 13 (t0 .1 .1 .0) in
     record {
-      months =
-          ⊎-elim (λ x. inl (eqb-true (s .months) 12 x)) (λ x. inr (eqb-true (s .months) 13 x))
-          (or-cases (eqb (s .months) 12) (eqb (s .months) 13) (t0 .0));
+      months = twelve-or (s .months) (t0 .0);
       thirteen =
           record {
             all-codes = c;
@@ -192,20 +193,40 @@ year-passes a y = passed (sheet-tests (a .leaps) (a .top) (a .sheet y))
 abbrev pub next-meets : Almanac → ℕ → Bool
 next-meets a y = eqb (a .sheet (suc y) .first) (a .sheet y .first + days-of (a .sheet y))
 
--- What a calendar owes: literal bounds, its leap codes, its silence outside its years, and the computed tests.
+abbrev pub bounds : Almanac → List Bool
+bounds a =
+    leb (a .lowest) (a .highest)
+        ∷ ltb (a .highest) (2 ^ 32)
+        ∷ (eqb (a .top) 12 || eqb (a .top) 13)
+        ∷ leb (a .sheet (a .lowest) .first) 693384
+        ∷ ltb 803616 (a .sheet (a .highest) .first + days-of (a .sheet (a .highest)))
+        ∷ []
+
+-- all that a calendar shows by computing
+abbrev pub tests : Almanac → List Bool
+tests a =
+    passed (bounds a)
+        ∷ every (year-passes a) (a .lowest) (a .highest + 1 - a .lowest)
+        ∷ every (next-meets a) (a .lowest) (a .highest - a .lowest)
+        ∷ []
+
+-- what a calendar owes: its leap codes, its silence outside its years, and that the tests pass
 pub record Tested (a : Almanac) : Type 0 where
-  pub ordered : a .lowest ≤ a .highest
-  pub small : a .highest < 2 ^ 32
-  pub top : (a .top ≡ 12) ⊎ (a .top ≡ 13)
   pub leaps : (n : ℕ) → a .leaps n ≡ true → (1 ≤ n) × (n < a .top)
   pub early : (y : ℕ) → y < a .lowest → a .sheet y ≡ empty-sheet
   pub late : (y : ℕ) → a .highest < y → a .sheet y ≡ empty-sheet
-  pub sheets : every (year-passes a) (a .lowest) (a .highest + 1 - a .lowest) ≡ true
-  pub links : every (next-meets a) (a .lowest) (a .highest - a .lowest) ≡ true
-  pub begins : a .sheet (a .lowest) .first ≤ 693384
-  pub ends : 803616 < a .sheet (a .highest) .first + days-of (a .sheet (a .highest))
+  pub computed : passed (tests a) ≡ true
 
 module _ (a : Almanac) (t : Tested a) where
+  parts : All (λ b. b ≡ true) (tests a)
+  parts = each-passed (tests a) (t .computed)
+
+  bound : All (λ b. b ≡ true) (bounds a)
+  bound = each-passed (bounds a) (parts .0)
+
+  ordered : a .lowest ≤ a .highest
+  ordered = leb-true (a .lowest) (a .highest) (bound .0)
+
   silent : (y : ℕ) → a .sheet y ≡ empty-sheet → Answered a y → ⊥
   silent y e h = let z = ap (λ (s : Sheet). s .months) e in omega arith
 
@@ -216,8 +237,8 @@ module _ (a : Almanac) (t : Tested a) where
 
   good-in : (y : ℕ) → a .lowest ≤ y → y ≤ a .highest → Good (a .leaps) (a .top) (a .sheet y)
   good-in y h k =
-      let o = t .ordered in
-      good (a .leaps) (a .top) (a .sheet y) (at-every (year-passes a) (a .highest + 1 - a .lowest) (a .lowest) (t .sheets) y h (omega arith))
+      let o = ordered in
+      good (a .leaps) (a .top) (a .sheet y) (at-every (year-passes a) (a .highest + 1 - a .lowest) (a .lowest) (parts .1 .0) y h (omega arith))
 
   good-of : (y : ℕ) → Answered a y → Good (a .leaps) (a .top) (a .sheet y)
   good-of y h = let s = in-years y h in good-in y (s .0) (s .1)
@@ -252,7 +273,7 @@ module _ (a : Almanac) (t : Tested a) where
   link : (y : ℕ) → a .lowest ≤ y → y < a .highest → a .sheet (suc y) .first ≡ a .sheet y .first + days-of (a .sheet y)
   link y h k =
       eqb-true (a .sheet (suc y) .first) (a .sheet y .first + days-of (a .sheet y))
-      (at-every (next-meets a) (a .highest - a .lowest) (a .lowest) (t .links) y h (omega arith))
+      (at-every (next-meets a) (a .highest - a .lowest) (a .lowest) (parts .1 .1 .0) y h (omega arith))
 
   -- each day from the beginning of the lowest year to the end of the year k years later lies in a year
   reached : (k : ℕ) → a .lowest + k ≤ a .highest → (n : ℕ) → a .sheet (a .lowest) .first ≤ n → n < a .sheet (a .lowest + k) .first + days-of (a .sheet (a .lowest + k)) → (y : ℕ) × Within a n y
@@ -273,17 +294,18 @@ module _ (a : Almanac) (t : Tested a) where
 
   covers : (n : ℕ) → Covered n → (y : ℕ) × Within a n y
   covers n c =
-      let o = t .ordered in
-      let b = t .begins in
+      let o = ordered in
+      let b = leb-true (a .sheet (a .lowest) .first) 693384 (bound .1 .1 .1 .0) in
       let e : a .highest ≡ a .lowest + (a .highest - a .lowest) = omega arith in
-      let u = subst (λ (m : ℕ). 803616 < a .sheet m .first + days-of (a .sheet m)) e (t .ends) in
+      let u = ltb-true 803616 (a .sheet (a .highest) .first + days-of (a .sheet (a .highest))) (bound .1 .1 .1 .1 .0) in
+      let v = subst (λ (m : ℕ). 803616 < a .sheet m .first + days-of (a .sheet m)) e u in
       reached (a .highest - a .lowest) (omega arith) n (omega arith) (omega arith)
 
   pub lawful : Lawful a
   lawful =
       record {
         thirteen = thirteen;
-        numbered = λ y h. let s = in-years y h in omega (arith, t .small);
+        numbered = λ y h. let s = in-years y h in omega (arith, ltb-true (a .highest) (2 ^ 32) (bound .1 .0));
         answers = answers;
         only = in-years;
         in-span = λ y h. (good-of y h .from, good-of y h .to);
@@ -297,7 +319,7 @@ module _ (a : Almanac) (t : Tested a) where
             let e = how-many-lengths y h in
             all-getD (λ n. (1 ≤ n) × (n ≤ 31)) (lengths-of (a .sheet y)) (p - 1) 0 (omega arith) (good-of y h .lengths);
         year-days = λ y h. (good-of y h .long, good-of y h .short);
-        twelve-or-thirteen = t .top;
+        twelve-or-thirteen = twelve-or (a .top) (bound .1 .1 .0);
         plain-codes = λ y h. good-of y h .plain;
         leap-stated = t .leaps;
         leap-codes = λ y p h f g l.
