@@ -1,0 +1,40 @@
+-- Which years lie wholly in the span, for any sheets, and the laws of a calendar of those years.
+use mathlib.Core.Path.{_≡_, sym}
+use mathlib.Core.Bool.{Bool, true, false}
+use mathlib.Core.Logic.{⊎-elim}
+use Prim.Native.Nat.{ℕ, suc, _+_, _-_, _<_, _≤_}
+use native.Mathlib.Omega.{arith}
+use lib.Dec.{leb}
+use Rattle.std.proofs.shelf.Tests.{and-left, and-right, lt-leb, cond-true, cond-false, cases-lt}
+use Rattle.calendar.specs.declared.sheet.Sheet.{Sheet}
+use Rattle.calendar.specs.Sheets.{empty-sheet, days-of}
+use Rattle.calendar.proofs.Tested.{every, at-every}
+use Rattle.calendars.specs.Span.{whole, in-span}
+
+-- the years from the lowest to the highest, and no others, lie wholly in the span
+pub record Years (f : ℕ → Sheet) (lowest highest : ℕ) : Type 0 where
+  pub inside : every (λ y. whole (f y)) lowest (highest + 1 - lowest) ≡ true
+  pub early : (y : ℕ) → y < lowest → f y .first < 693000
+  pub next : whole (f (highest + 1)) ≡ false
+  pub late : (y : ℕ) → highest + 1 < y → 804001 < f y .first
+
+module _ (f : ℕ → Sheet) (lowest highest : ℕ) (h : Years f lowest highest) where
+  pub in-years : (y : ℕ) → lowest ≤ y → y ≤ highest → in-span f y ≡ f y
+  in-years y l g = cond-true (whole (f y)) (f y) empty-sheet (at-every (λ y. whole (f y)) (highest + 1 - lowest) lowest (h .inside) y l (omega arith))
+
+  pub before : (y : ℕ) → y < lowest → in-span f y ≡ empty-sheet
+  before y l =
+      cond-false (whole (f y)) (f y) empty-sheet (and-left (leb 693000 (f y .first)) (leb (f y .first + days-of (f y)) 804001) (lt-leb 693000 (f y .first) (h .early y l)))
+
+  not-whole : (y : ℕ) → highest < y → whole (f y) ≡ false
+  not-whole y g =
+      ⊎-elim
+          (λ (l : highest + 1 < y).
+              let b = h .late y l in
+              and-right (leb 693000 (f y .first)) (leb (f y .first + days-of (f y)) 804001)
+              (lt-leb (f y .first + days-of (f y)) 804001 (omega arith)))
+          (λ (l : y ≤ highest + 1). let e : y ≡ highest + 1 = omega arith in rw e (h .next))
+          (cases-lt (highest + 1) y)
+
+  pub after : (y : ℕ) → highest < y → in-span f y ≡ empty-sheet
+  after y g = cond-false (whole (f y)) (f y) empty-sheet (not-whole y g)
