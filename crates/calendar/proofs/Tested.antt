@@ -31,8 +31,8 @@ at-every f zero lo t y h k = absurd (let z : ⊥ = omega arith in z)
 at-every f (suc n) lo t y h k =
     let parts = and-parts (f lo) (every f (suc lo) n) t in
     ⊎-elim (λ (l : lo < y). at-every f n (suc lo) (parts .1) y (omega arith) (omega arith))
-        (λ (g : y ≤ lo). let e : lo ≡ y = omega arith in subst (λ (m : ℕ). f m ≡ true) e (parts .0))
-        (cases-lt lo y)
+    (λ (g : y ≤ lo). let e : lo ≡ y = omega arith in subst (λ (m : ℕ). f m ≡ true) e (parts .0))
+    (cases-lt lo y)
 
 -- the test f passes at each element
 abbrev pub all : {X : Type 0} → (X → Bool) → List X → Bool
@@ -101,15 +101,15 @@ leaps-placed leaps b (c ∷ cs) = leap-placed leaps b c && leaps-placed leaps c 
 follows : (leaps : ℕ → Bool) (b c : MonthCode) → leap-placed leaps b c ≡ true → c .leap ≡ true → Follows leaps b c
 follows leaps b c t e =
     ⊎-elim (λ n. absurd (both-ways (c .leap) (not-true (c .leap) n) e))
-        (λ r.
-            let p = each-passed (follows-tests leaps b c) r in
-            record {
-              stated = p .0;
-              some = leb-true 1 (c .number) (p .1 .0);
-              number = eqb-true (b .number) (c .number) (p .1 .1 .0);
-              plain = not-true (b .leap) (p .1 .1 .1 .0);
-            })
-        (or-cases (not (c .leap)) (passed (follows-tests leaps b c)) t)
+    (λ r.
+    let p = each-passed (follows-tests leaps b c) r in
+    record {
+      stated = p .0;
+      some = leb-true 1 (c .number) (p .1 .0);
+      number = eqb-true (b .number) (c .number) (p .1 .1 .0);
+      plain = not-true (b .leap) (p .1 .1 .1 .0);
+    })
+    (or-cases (not (c .leap)) (passed (follows-tests leaps b c)) t)
 
 follows-at : (leaps : ℕ → Bool) (b : MonthCode) (cs : List MonthCode) → leaps-placed leaps b cs ≡ true → (k : ℕ) → k < length cs → getD cs k no-code .leap ≡ true → Follows leaps (getD (b ∷ cs) k no-code) (getD cs k no-code)
 follows-at leaps b [] t k h e = absurd (not-suc-le-zero h)
@@ -133,18 +133,18 @@ leap-month a s p (suc q) e h f =
 abbrev pub sheet-tests : (ℕ → Bool) → ℕ → Sheet → List Bool
 sheet-tests leaps top s =
     (eqb (s .months) 12 || eqb (s .months) 13)
-        ∷ eqb (length (s .codes)) 13
-        ∷ eqb (length (s .lengths)) 13
-        ∷ all unused (drop (s .months) (s .codes))
-        ∷ all (λ n. eqb n 0) (drop (s .months) (s .lengths))
-        ∷ all month-long (lengths-of s)
-        ∷ leb 350 (days-of s)
-        ∷ leb (days-of s) 385
-        ∷ leb 693000 (s .first)
-        ∷ leb (s .first + days-of s) 804001
-        ∷ sameBytes (plain-numbers (codes-of s)) (counted 1 top)
-        ∷ leaps-placed leaps no-code (codes-of s)
-        ∷ []
+    ∷ eqb (length (s .codes)) 13
+    ∷ eqb (length (s .lengths)) 13
+    ∷ all unused (drop (s .months) (s .codes))
+    ∷ all (λ n. eqb n 0) (drop (s .months) (s .lengths))
+    ∷ all month-long (lengths-of s)
+    ∷ leb 350 (days-of s)
+    ∷ leb (days-of s) 385
+    ∷ leb 693000 (s .first)
+    ∷ leb (s .first + days-of s) 804001
+    ∷ sameBytes (plain-numbers (codes-of s)) (counted 1 top)
+    ∷ leaps-placed leaps no-code (codes-of s)
+    ∷ []
 
 -- what the tests say of a sheet
 pub record Good (leaps : ℕ → Bool) (top : ℕ) (s : Sheet) : Type 0 where
@@ -196,25 +196,24 @@ next-meets a y = eqb (a .sheet (suc y) .first) (a .sheet y .first + days-of (a .
 abbrev pub bounds : Almanac → List Bool
 bounds a =
     leb (a .lowest) (a .highest)
-        ∷ ltb (a .highest) (2 ^ 32)
-        ∷ (eqb (a .top) 12 || eqb (a .top) 13)
-        ∷ leb (a .sheet (a .lowest) .first) 693384
-        ∷ ltb 803616 (a .sheet (a .highest) .first + days-of (a .sheet (a .highest)))
-        ∷ []
+    ∷ ltb (a .highest) (2 ^ 32)
+    ∷ (eqb (a .top) 12 || eqb (a .top) 13)
+    ∷ leb (a .sheet (a .lowest) .first) 693384
+    ∷ ltb 803616 (a .sheet (a .highest) .first + days-of (a .sheet (a .highest)))
+    ∷ []
 
 -- all that a calendar shows by computing
 abbrev pub tests : Almanac → List Bool
 tests a =
     passed (bounds a)
-        ∷ every (year-passes a) (a .lowest) (a .highest + 1 - a .lowest)
-        ∷ every (next-meets a) (a .lowest) (a .highest - a .lowest)
-        ∷ []
+    ∷ every (year-passes a) (a .lowest) (a .highest + 1 - a .lowest)
+    ∷ every (next-meets a) (a .lowest) (a .highest - a .lowest)
+    ∷ []
 
 -- what a calendar owes: its leap codes, its silence outside its years, and that the tests pass
 pub record Tested (a : Almanac) : Type 0 where
   pub leaps : (n : ℕ) → a .leaps n ≡ true → (1 ≤ n) × (n < a .top)
-  pub early : (y : ℕ) → y < a .lowest → a .sheet y ≡ empty-sheet
-  pub late : (y : ℕ) → a .highest < y → a .sheet y ≡ empty-sheet
+  pub silent : (y : ℕ) → (a .lowest ≤ y → y ≤ a .highest → ⊥) → a .sheet y ≡ empty-sheet
   pub computed : passed (tests a) ≡ true
 
 module _ (a : Almanac) (t : Tested a) where
@@ -227,13 +226,17 @@ module _ (a : Almanac) (t : Tested a) where
   ordered : a .lowest ≤ a .highest
   ordered = leb-true (a .lowest) (a .highest) (bound .0)
 
-  silent : (y : ℕ) → a .sheet y ≡ empty-sheet → Answered a y → ⊥
-  silent y e h = let z = ap (λ (s : Sheet). s .months) e in omega arith
+  -- a year stands among the answered ones, or its sheet is empty
+  among : (y : ℕ) → ((a .lowest ≤ y) × (y ≤ a .highest)) ⊎ (a .sheet y ≡ empty-sheet)
+  among y =
+      ⊎-elim (λ (l : y < a .lowest). inr (t .silent y (λ h k. omega arith)))
+      (λ (h : a .lowest ≤ y).
+      ⊎-elim (λ (l : a .highest < y). inr (t .silent y (λ h k. omega arith))) (λ (k : y ≤ a .highest). inl (h, k)) (cases-lt (a .highest) y))
+      (cases-lt y (a .lowest))
 
   in-years : (y : ℕ) → Answered a y → (a .lowest ≤ y) × (y ≤ a .highest)
   in-years y h =
-      (⊎-elim (λ (l : y < a .lowest). absurd (silent y (t .early y l) h)) (λ g. g) (cases-lt y (a .lowest)),
-        ⊎-elim (λ (l : a .highest < y). absurd (silent y (t .late y l) h)) (λ g. g) (cases-lt (a .highest) y))
+      ⊎-elim (λ b. b) (λ e. absurd (let z : ⊥ = omega (arith, ap (λ (s : Sheet). s .months) e) in z)) (among y)
 
   good-in : (y : ℕ) → a .lowest ≤ y → y ≤ a .highest → Good (a .leaps) (a .top) (a .sheet y)
   good-in y h k =
@@ -246,15 +249,8 @@ module _ (a : Almanac) (t : Tested a) where
   answers : (y : ℕ) → a .lowest ≤ y → y ≤ a .highest → Answered a y
   answers y h k = ⊎-elim (λ e. omega arith) (λ e. omega arith) (good-in y h k .months)
 
-  empty-is : (y : ℕ) → a .sheet y ≡ empty-sheet → Thirteen (a .sheet y)
-  empty-is y e = subst Thirteen (sym e) empty-thirteen
-
   thirteen : (y : ℕ) → Thirteen (a .sheet y)
-  thirteen y =
-      ⊎-elim (λ (l : y < a .lowest). empty-is y (t .early y l))
-          (λ (g : a .lowest ≤ y).
-              ⊎-elim (λ (l : a .highest < y). empty-is y (t .late y l)) (λ (k : y ≤ a .highest). good-in y g k .thirteen) (cases-lt (a .highest) y))
-          (cases-lt y (a .lowest))
+  thirteen y = ⊎-elim (λ b. good-in y (b .0) (b .1) .thirteen) (λ e. subst Thirteen (sym e) empty-thirteen) (among y)
 
   -- the months that an answered year has stand on its sheet
   months-fit : (y : ℕ) → Answered a y → a .sheet y .months ≤ 13
@@ -285,12 +281,12 @@ module _ (a : Almanac) (t : Tested a) where
       let e : a .lowest + suc k ≡ suc (a .lowest + k) = omega arith in
       let j = link (a .lowest + k) (omega arith) (omega arith) in
       ⊎-elim
-          (λ (l : n < a .sheet (a .lowest + suc k) .first).
-              let l′ = subst (λ (m : ℕ). n < a .sheet m .first) e l in
-              reached k (omega arith) n f (omega arith))
-          (λ (l : a .sheet (a .lowest + suc k) .first ≤ n).
-              (a .lowest + suc k, record { answered = answers (a .lowest + suc k) (omega arith) h; from = l; to = g }))
-          (cases-lt n (a .sheet (a .lowest + suc k) .first))
+      (λ (l : n < a .sheet (a .lowest + suc k) .first).
+      let l′ = subst (λ (m : ℕ). n < a .sheet m .first) e l in
+      reached k (omega arith) n f (omega arith))
+      (λ (l : a .sheet (a .lowest + suc k) .first ≤ n).
+      (a .lowest + suc k, record { answered = answers (a .lowest + suc k) (omega arith) h; from = l; to = g }))
+      (cases-lt n (a .sheet (a .lowest + suc k) .first))
 
   covers : (n : ℕ) → Covered n → (y : ℕ) × Within a n y
   covers n c =

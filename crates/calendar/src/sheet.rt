@@ -27,7 +27,10 @@ impl Sheet {
         Sheet {
             first: 0,
             months: 0,
-            codes: [MonthCode { number: 0, leap: false }; 13],
+            codes: [MonthCode {
+                number: 0,
+                leap: false,
+            }; 13],
             lengths: [0; 13],
         }
     }

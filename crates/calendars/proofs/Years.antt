@@ -22,19 +22,22 @@ module _ (f : ℕ → Sheet) (lowest highest : ℕ) (h : Years f lowest highest)
   pub in-years : (y : ℕ) → lowest ≤ y → y ≤ highest → in-span f y ≡ f y
   in-years y l g = cond-true (whole (f y)) (f y) empty-sheet (at-every (λ y. whole (f y)) (highest + 1 - lowest) lowest (h .inside) y l (omega arith))
 
-  pub before : (y : ℕ) → y < lowest → in-span f y ≡ empty-sheet
-  before y l =
-      cond-false (whole (f y)) (f y) empty-sheet (and-left (leb 693000 (f y .first)) (leb (f y .first + days-of (f y)) 804001) (lt-leb 693000 (f y .first) (h .early y l)))
-
-  not-whole : (y : ℕ) → highest < y → whole (f y) ≡ false
-  not-whole y g =
+  -- a year begins before the span, or ends after it, or is one of the years
+  outside : (y : ℕ) → (lowest ≤ y → y ≤ highest → ⊥) → whole (f y) ≡ false
+  outside y n =
+      let from = leb 693000 (f y .first) in
+      let to = leb (f y .first + days-of (f y)) 804001 in
+      ⊎-elim (λ (l : y < lowest). and-left from to (lt-leb 693000 (f y .first) (h .early y l)))
+      (λ (l : lowest ≤ y).
       ⊎-elim
-          (λ (l : highest + 1 < y).
-              let b = h .late y l in
-              and-right (leb 693000 (f y .first)) (leb (f y .first + days-of (f y)) 804001)
-              (lt-leb (f y .first + days-of (f y)) 804001 (omega arith)))
-          (λ (l : y ≤ highest + 1). let e : y ≡ highest + 1 = omega arith in rw e (h .next))
-          (cases-lt (highest + 1) y)
+      (λ (g : highest + 1 < y).
+      let b = h .late y g in
+      and-right from to (lt-leb (f y .first + days-of (f y)) 804001 (omega arith)))
+      (λ (g : y ≤ highest + 1).
+      let e : y ≡ highest + 1 = omega (arith, cases-lt highest y, n l) in
+      rw e (h .next))
+      (cases-lt (highest + 1) y))
+      (cases-lt y lowest)
 
-  pub after : (y : ℕ) → highest < y → in-span f y ≡ empty-sheet
-  after y g = cond-false (whole (f y)) (f y) empty-sheet (not-whole y g)
+  pub silent : (y : ℕ) → (lowest ≤ y → y ≤ highest → ⊥) → in-span f y ≡ empty-sheet
+  silent y n = cond-false (whole (f y)) (f y) empty-sheet (outside y n)

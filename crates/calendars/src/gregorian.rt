@@ -3,12 +3,13 @@ ghost use mathlib.Core.Path.{_≡_};
 ghost use Prim.Native.Nat.{_≤_};
 ghost use Rattle.days.specs.Gregorian.{leap-year};
 ghost use Rattle.calendars.specs.Gregorian.{gregorian, gregorian-year};
+use super::codes::TWELVE;
 use calendar::Sheet;
 use calendar::Sheets;
-use super::codes::TWELVE;
 
 // The years that lie wholly in the span.
 const LOWEST: u32 = 1899;
+
 const HIGHEST: u32 = 2201;
 
 #[derive(Clone, Copy)]
