@@ -17,27 +17,27 @@ no-leaps : (top n : ℕ) → false ≡ true → (1 ≤ n) × (n < top)
 no-leaps top n e = absurd (true≢false (sym e))
 
 pub gregorian-years : Years gregorian-year 1899 2201
-gregorian-years = record { inside = refl; early = λ y l. omega arith; next = refl; late = λ y l. omega arith }
+gregorian-years = record { early = λ y l. omega arith; next = refl; late = λ y l. omega arith }
 
 pub gregorian-laws : Lawful gregorian
 gregorian-laws =
     lawful gregorian record { leaps = no-leaps 12; silent = silent _ _ _ gregorian-years; computed = refl }
 
 pub coptic-years : Years coptic-year 1615 1917
-coptic-years = record { inside = refl; early = λ y l. omega arith; next = refl; late = λ y l. omega arith }
+coptic-years = record { early = λ y l. omega arith; next = refl; late = λ y l. omega arith }
 
 pub coptic-laws : Lawful coptic
 coptic-laws = lawful coptic record { leaps = no-leaps 13; silent = silent _ _ _ coptic-years; computed = refl }
 
 pub islamic-years : Years islamic-year 1316 1628
-islamic-years = record { inside = refl; early = λ y l. omega arith; next = refl; late = λ y l. omega arith }
+islamic-years = record { early = λ y l. omega arith; next = refl; late = λ y l. omega arith }
 
 pub islamic-laws : Lawful islamic-civil
 islamic-laws =
     lawful islamic-civil record { leaps = no-leaps 12; silent = silent _ _ _ islamic-years; computed = refl }
 
 pub hebrew-years : Years hebrew-year 5659 5961
-hebrew-years = record { inside = refl; early = early; next = refl; late = late }
+hebrew-years = record { early = early; next = refl; late = late }
 
 pub hebrew-laws : Lawful hebrew
 hebrew-laws =

@@ -15,7 +15,7 @@ correction-bound a b c =
     cond-both (eqb (c - b) 356) 2 (cond (eqb (b - a) 382) 1 0) (λ x. x ≤ 2) (λ _. omega arith)
     (λ _. cond-both (eqb (b - a) 382) 1 0 (λ x. x ≤ 2) (λ _. omega arith) (λ _. omega arith))
 
-pub elapsed-bounds : (y : ℕ) → (moon-day (months-before y) ≤ elapsed y) × (elapsed y ≤ moon-day (months-before y) + 1)
+elapsed-bounds : (y : ℕ) → (moon-day (months-before y) ≤ elapsed y) × (elapsed y ≤ moon-day (months-before y) + 1)
 elapsed-bounds y = postponed-bounds (moon-day (months-before y))
 
 months-next : (y : ℕ) → 1 ≤ y → months-before y + 12 ≤ months-before (y + 1)
@@ -24,22 +24,12 @@ months-next y h = omega arith
 moon-next : (m n : ℕ) → m + 12 ≤ n → moon-day m + 354 ≤ moon-day n
 moon-next m n h = omega arith
 
-pub elapsed-next : (y : ℕ) → 1 ≤ y → elapsed y + 353 ≤ elapsed (y + 1)
+elapsed-next : (y : ℕ) → 1 ≤ y → elapsed y + 353 ≤ elapsed (y + 1)
 elapsed-next y h =
     let a = elapsed-bounds y in
     let b = elapsed-bounds (y + 1) in
     let c = moon-next (months-before y) (months-before (y + 1)) (months-next y h) in
     omega arith
-
--- from the year 5658 on, a year begins no earlier than 1373427 days after the first
-months-low : (y : ℕ) → 5000 ≤ y → 61800 ≤ months-before y
-months-low y h = omega arith
-
-moon-low : (m : ℕ) → 61800 ≤ m → 1373427 ≤ moon-day m
-moon-low m h = omega arith
-
-pub elapsed-low : (y : ℕ) → 5000 ≤ y → 1373427 ≤ elapsed y
-elapsed-low y h = let a = elapsed-bounds y in let b = moon-low (months-before y) (months-low y h) in omega arith
 
 new-year-bounds : (y : ℕ) → (elapsed y - 1373427 ≤ new-year y) × (new-year y ≤ elapsed y + 2 - 1373427)
 new-year-bounds y = let h = correction-bound (elapsed (y - 1)) (elapsed y) (elapsed (y + 1)) in (omega arith, omega arith)

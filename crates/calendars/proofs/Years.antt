@@ -1,27 +1,29 @@
--- Which years lie wholly in the span, for any sheets, and the laws of a calendar of those years.
-use mathlib.Core.Path.{_≡_, sym}
-use mathlib.Core.Bool.{Bool, true, false}
+-- Sheets in the span: outside a calendar's years they are empty, and an answered one is as the calendar reckons it.
+use mathlib.Core.Path.{_≡_, ap}
+use mathlib.Core.Bool.{false}
 use mathlib.Core.Logic.{⊎-elim}
-use Prim.Native.Nat.{ℕ, suc, _+_, _-_, _<_, _≤_}
+use Prim.Native.Nat.{ℕ, _+_, _<_, _≤_}
 use native.Mathlib.Omega.{arith}
 use lib.Dec.{leb}
-use Rattle.std.proofs.shelf.Tests.{and-left, and-right, lt-leb, cond-true, cond-false, cases-lt}
+use Rattle.std.proofs.shelf.Tests.{and-left, and-right, lt-leb, cond-true, cond-false, cases-lt, cases-bool}
 use Rattle.calendar.specs.declared.sheet.Sheet.{Sheet}
 use Rattle.calendar.specs.Sheets.{empty-sheet, days-of}
-use Rattle.calendar.proofs.Tested.{every, at-every}
 use Rattle.calendars.specs.Span.{whole, in-span}
 
--- the years from the lowest to the highest, and no others, lie wholly in the span
+-- the years before the lowest and after the highest do not lie wholly in the span
 pub record Years (f : ℕ → Sheet) (lowest highest : ℕ) : Type 0 where
-  pub inside : every (λ y. whole (f y)) lowest (highest + 1 - lowest) ≡ true
   pub early : (y : ℕ) → y < lowest → f y .first < 693000
   pub next : whole (f (highest + 1)) ≡ false
   pub late : (y : ℕ) → highest + 1 < y → 804001 < f y .first
 
-module _ (f : ℕ → Sheet) (lowest highest : ℕ) (h : Years f lowest highest) where
-  pub in-years : (y : ℕ) → lowest ≤ y → y ≤ highest → in-span f y ≡ f y
-  in-years y l g = cond-true (whole (f y)) (f y) empty-sheet (at-every (λ y. whole (f y)) (highest + 1 - lowest) lowest (h .inside) y l (omega arith))
+-- a year that has months is as f has it
+pub as-reckoned : (f : ℕ → Sheet) (y : ℕ) → 0 < in-span f y .months → in-span f y ≡ f y
+as-reckoned f y h =
+    ⊎-elim (λ t. cond-true (whole (f y)) (f y) empty-sheet t)
+    (λ n. absurd (let z : ⊥ = omega (arith, ap (λ (s : Sheet). s .months) (cond-false (whole (f y)) (f y) empty-sheet n)) in z))
+    (cases-bool (whole (f y)))
 
+module _ (f : ℕ → Sheet) (lowest highest : ℕ) (h : Years f lowest highest) where
   -- a year begins before the span, or ends after it, or is one of the years
   outside : (y : ℕ) → (lowest ≤ y → y ≤ highest → ⊥) → whole (f y) ≡ false
   outside y n =
