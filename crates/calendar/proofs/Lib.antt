@@ -1,2 +1,3 @@
 pub mod Years
 pub mod Dating
+pub mod Tested

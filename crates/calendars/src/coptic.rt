@@ -1,0 +1,52 @@
+// The Coptic calendar.
+ghost use mathlib.Core.Path.{_≡_};
+ghost use Prim.Native.Nat.{_≤_};
+ghost use Rattle.calendars.specs.Coptic.{coptic, coptic-year};
+use super::codes::THIRTEEN;
+use calendar::Sheet;
+use calendar::Sheets;
+
+// The years that lie wholly in the span.
+const LOWEST: u32 = 1615;
+
+const HIGHEST: u32 = 1917;
+
+#[derive(Clone, Copy)]
+pub struct Coptic;
+
+fn year_sheet(year: u32) -> Sheet
+    requires { ⌜ 1 ≤ year ⌝ ∗ ⌜ year ≤ 10000 ⌝ }
+    ensures { λ r. ⌜ r ≡ coptic-year year ⌝ }
+{
+    let thirteenth = if year % 4 == 3 { 6 } else { 5 };
+    Sheet {
+        first: 103_605 + 365 * (year - 1) + year / 4,
+        months: 13,
+        codes: THIRTEEN,
+        lengths: [30, 30, 30, 30, 30, 30, 30, 30, 30, 30, 30, 30, thirteenth],
+    }
+}
+
+pub impl Sheets for Coptic as CopticSheets {
+    ghost meaning = { λ _. coptic };
+
+    fn name(&self) -> &str {
+        "coptic"
+    }
+
+    fn top(&self) -> u8 {
+        13
+    }
+
+    fn states_leap(&self, number: u8) -> bool {
+        false
+    }
+
+    fn sheet(&self, year: u32) -> Sheet {
+        if (LOWEST..=HIGHEST).contains(&year) {
+            year_sheet(year)
+        } else {
+            Sheet::empty()
+        }
+    }
+}
