@@ -1,3 +1,4 @@
 pub mod Years
 pub mod Dating
 pub mod Tested
+pub mod Places

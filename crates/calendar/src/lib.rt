@@ -1,15 +1,20 @@
 // What a calendar is: year sheets, the two questions, the laws, and shelves of calendars.
 ghost use mathlib.Core.Path.{_≡_};
-ghost use Rattle.calendar.specs.Sheets.{Almanac, Answered, Dated};
+ghost use Rattle.calendar.specs.Sheets.{Almanac, Dated};
 ghost use Rattle.calendar.specs.Laws.{Lawful};
-ghost use Rattle.calendar.specs.Shelves.{Found};
 
 mod search;
 mod sheet;
+mod shelf;
 
 pub use search::date_from;
 pub use sheet::MonthCode;
 pub use sheet::Sheet;
+pub use shelf::Empty;
+pub use shelf::EmptyShelf;
+pub use shelf::On;
+pub use shelf::OnShelf;
+pub use shelf::Shelf;
 
 // What a calendar states, and the sheet question. Its meaning is an almanac that obeys the laws.
 pub trait Sheets {
