@@ -14,8 +14,7 @@ use Rattle.std.specs.shelf.Text.{sameBytes}
 use Rattle.std.specs.shelf.Lists.{All}
 use Rattle.std.proofs.shelf.Elements.{all-getD}
 use Rattle.std.proofs.shelf.Equals.{sameBytes-decides}
-use Rattle.std.proofs.shelf.Tests.{leb-true, ltb-true, eqb-true, and-parts, or-cases, cases-lt, true≢false, both-ways, not-true}
-use Rattle.days.specs.Months.{length-at}
+use Rattle.std.proofs.shelf.Tests.{leb-true, ltb-true, eqb-true, and-parts, or-cases, cases-lt, both-ways, not-true}
 use Rattle.calendar.specs.declared.sheet.MonthCode.{MonthCode}
 use Rattle.calendar.specs.declared.sheet.Sheet.{Sheet}
 use Rattle.calendar.specs.Sheets.{Almanac, Answered, Within, no-code, empty-sheet, codes-of, lengths-of, days-of}

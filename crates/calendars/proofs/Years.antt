@@ -7,14 +7,14 @@ use native.Mathlib.Omega.{arith}
 use lib.Dec.{leb}
 use Rattle.std.proofs.shelf.Tests.{and-left, and-right, lt-leb, cond-true, cond-false, cases-lt, cases-bool}
 use Rattle.calendar.specs.declared.sheet.Sheet.{Sheet}
-use Rattle.calendar.specs.Sheets.{empty-sheet, days-of}
+use Rattle.calendar.specs.Sheets.{Almanac, empty-sheet, days-of}
 use Rattle.calendars.specs.Span.{whole, in-span}
 
--- the years before the lowest and after the highest do not lie wholly in the span
-pub record Years (f : ℕ → Sheet) (lowest highest : ℕ) : Type 0 where
-  pub early : (y : ℕ) → y < lowest → f y .first < 693000
-  pub next : whole (f (highest + 1)) ≡ false
-  pub late : (y : ℕ) → highest + 1 < y → 804001 < f y .first
+-- what a calendar owes of the sheets f that it reckons: its years are all that lie wholly in the span
+pub record Years (a : Almanac) (f : ℕ → Sheet) : Type 0 where
+  pub early : (y : ℕ) → y < a .lowest → f y .first < 693000
+  pub next : whole (f (a .highest + 1)) ≡ false
+  pub late : (y : ℕ) → a .highest + 1 < y → 804001 < f y .first
 
 -- a year that has months is as f has it
 pub as-reckoned : (f : ℕ → Sheet) (y : ℕ) → 0 < in-span f y .months → in-span f y ≡ f y
@@ -23,23 +23,19 @@ as-reckoned f y h =
     (λ n. absurd (let z : ⊥ = omega (arith, ap (λ (s : Sheet). s .months) (cond-false (whole (f y)) (f y) empty-sheet n)) in z))
     (cases-bool (whole (f y)))
 
-module _ (f : ℕ → Sheet) (lowest highest : ℕ) (h : Years f lowest highest) where
-  -- a year begins before the span, or ends after it, or is one of the years
-  outside : (y : ℕ) → (lowest ≤ y → y ≤ highest → ⊥) → whole (f y) ≡ false
-  outside y n =
-      let from = leb 693000 (f y .first) in
-      let to = leb (f y .first + days-of (f y)) 804001 in
-      ⊎-elim (λ (l : y < lowest). and-left from to (lt-leb 693000 (f y .first) (h .early y l)))
-      (λ (l : lowest ≤ y).
-      ⊎-elim
-      (λ (g : highest + 1 < y).
-      let b = h .late y g in
-      and-right from to (lt-leb (f y .first + days-of (f y)) 804001 (omega arith)))
-      (λ (g : y ≤ highest + 1).
-      let e : y ≡ highest + 1 = omega (arith, cases-lt highest y, n l) in
-      rw e (h .next))
-      (cases-lt (highest + 1) y))
-      (cases-lt y lowest)
+module _ (a : Almanac) (f : ℕ → Sheet) (h : Years a f) where
+  too-early : (y : ℕ) → y < a .lowest → whole (f y) ≡ false
+  too-early y l = and-left (leb 693000 (f y .first)) (leb (f y .first + days-of (f y)) 804001) (lt-leb 693000 (f y .first) (h .early y l))
 
-  pub silent : (y : ℕ) → (lowest ≤ y → y ≤ highest → ⊥) → in-span f y ≡ empty-sheet
-  silent y n = cond-false (whole (f y)) (f y) empty-sheet (outside y n)
+  much-too-late : (y : ℕ) → a .highest + 1 < y → whole (f y) ≡ false
+  much-too-late y l =
+      let b = h .late y l in
+      and-right (leb 693000 (f y .first)) (leb (f y .first + days-of (f y)) 804001) (lt-leb (f y .first + days-of (f y)) 804001 (omega arith))
+
+  too-late : (y : ℕ) → a .highest < y → whole (f y) ≡ false
+  too-late y l = ⊎-elim (λ g. much-too-late y g) (λ g. let e : y ≡ a .highest + 1 = omega arith in rw e (h .next)) (cases-lt (a .highest + 1) y)
+
+  pub silent : (y : ℕ) → (a .lowest ≤ y → y ≤ a .highest → ⊥) → in-span f y ≡ empty-sheet
+  silent y n =
+      cond-false (whole (f y)) (f y) empty-sheet
+      (⊎-elim (λ l. too-early y l) (λ l. too-late y (omega (arith, cases-lt (a .highest) y, n l))) (cases-lt y (a .lowest)))

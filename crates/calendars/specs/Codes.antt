@@ -6,9 +6,12 @@ use Rattle.calendar.specs.declared.sheet.MonthCode.{MonthCode}
 use Rattle.calendar.specs.Sheets.{no-code}
 use Rattle.calendar.specs.Laws.{counted}
 
+abbrev pub plain-code : ℕ → MonthCode
+plain-code n = record { number = n; leap = false }
+
 -- n plain codes, from k on
 abbrev pub plain-codes : ℕ → ℕ → List MonthCode
-plain-codes k n = map (λ m. record { number = m; leap = false }) (counted k n)
+plain-codes k n = map plain-code (counted k n)
 
 abbrev pub twelve-codes : List MonthCode
 twelve-codes = plain-codes 1 12 ++ (no-code ∷ [])

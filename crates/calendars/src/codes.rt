@@ -1,83 +1,64 @@
 // The month codes of years, in the order of the months.
+ghost use mathlib.Core.Path.{_≡_};
+ghost use Rattle.calendars.specs.Codes.{plain-code, twelve-codes, thirteen-codes, codes-with-5L};
 use calendar::MonthCode;
 
-const M1: MonthCode = MonthCode {
-    number: 1,
-    leap: false,
-};
+fn plain(number: u8) -> MonthCode
+    ensures { λ r. ⌜ r ≡ plain-code number ⌝ }
+{
+    MonthCode {
+        number,
+        leap: false,
+    }
+}
 
-const M2: MonthCode = MonthCode {
-    number: 2,
-    leap: false,
-};
+pub fn thirteen() -> [MonthCode; 13]
+    ensures { λ r. ⌜ r ≡ thirteen-codes ⌝ }
+{
+    [
+        plain(1),
+        plain(2),
+        plain(3),
+        plain(4),
+        plain(5),
+        plain(6),
+        plain(7),
+        plain(8),
+        plain(9),
+        plain(10),
+        plain(11),
+        plain(12),
+        plain(13),
+    ]
+}
 
-const M3: MonthCode = MonthCode {
-    number: 3,
-    leap: false,
-};
+pub fn twelve() -> [MonthCode; 13]
+    ensures { λ r. ⌜ r ≡ twelve-codes ⌝ }
+{
+    let mut codes = thirteen();
+    codes[12] = plain(0);
+    codes
+}
 
-const M4: MonthCode = MonthCode {
-    number: 4,
-    leap: false,
-};
-
-const M5: MonthCode = MonthCode {
-    number: 5,
-    leap: false,
-};
-
-const M6: MonthCode = MonthCode {
-    number: 6,
-    leap: false,
-};
-
-const M7: MonthCode = MonthCode {
-    number: 7,
-    leap: false,
-};
-
-const M8: MonthCode = MonthCode {
-    number: 8,
-    leap: false,
-};
-
-const M9: MonthCode = MonthCode {
-    number: 9,
-    leap: false,
-};
-
-const M10: MonthCode = MonthCode {
-    number: 10,
-    leap: false,
-};
-
-const M11: MonthCode = MonthCode {
-    number: 11,
-    leap: false,
-};
-
-const M12: MonthCode = MonthCode {
-    number: 12,
-    leap: false,
-};
-
-const M13: MonthCode = MonthCode {
-    number: 13,
-    leap: false,
-};
-
-const M5L: MonthCode = MonthCode {
-    number: 5,
-    leap: true,
-};
-
-const UNUSED: MonthCode = MonthCode {
-    number: 0,
-    leap: false,
-};
-
-pub const TWELVE: [MonthCode; 13] = [M1, M2, M3, M4, M5, M6, M7, M8, M9, M10, M11, M12, UNUSED];
-
-pub const THIRTEEN: [MonthCode; 13] = [M1, M2, M3, M4, M5, M6, M7, M8, M9, M10, M11, M12, M13];
-
-pub const WITH_5L: [MonthCode; 13] = [M1, M2, M3, M4, M5, M5L, M6, M7, M8, M9, M10, M11, M12];
+pub fn with_5l() -> [MonthCode; 13]
+    ensures { λ r. ⌜ r ≡ codes-with-5L ⌝ }
+{
+    [
+        plain(1),
+        plain(2),
+        plain(3),
+        plain(4),
+        plain(5),
+        MonthCode {
+            number: 5,
+            leap: true,
+        },
+        plain(6),
+        plain(7),
+        plain(8),
+        plain(9),
+        plain(10),
+        plain(11),
+        plain(12),
+    ]
+}

@@ -2,7 +2,7 @@
 ghost use mathlib.Core.Path.{_≡_};
 ghost use Prim.Native.Nat.{_≤_};
 ghost use Rattle.calendars.specs.Coptic.{coptic, coptic-year};
-use super::codes::THIRTEEN;
+use super::codes::thirteen;
 use calendar::Sheet;
 use calendar::Sheets;
 
@@ -22,7 +22,7 @@ fn year_sheet(year: u32) -> Sheet
     Sheet {
         first: 103_605 + 365 * (year - 1) + year / 4,
         months: 13,
-        codes: THIRTEEN,
+        codes: thirteen(),
         lengths: [30, 30, 30, 30, 30, 30, 30, 30, 30, 30, 30, 30, thirteenth],
     }
 }

@@ -3,7 +3,7 @@ ghost use mathlib.Core.Path.{_≡_};
 ghost use Prim.Native.Nat.{_≤_};
 ghost use Rattle.days.specs.Gregorian.{leap-year};
 ghost use Rattle.calendars.specs.Gregorian.{gregorian, gregorian-year};
-use super::codes::TWELVE;
+use super::codes::twelve;
 use calendar::Sheet;
 use calendar::Sheets;
 
@@ -30,7 +30,7 @@ fn year_sheet(year: u32) -> Sheet
     Sheet {
         first: 1 + 365 * past + past / 4 - past / 100 + past / 400,
         months: 12,
-        codes: TWELVE,
+        codes: twelve(),
         lengths: [31, february, 31, 30, 31, 30, 31, 31, 30, 31, 30, 31, 0],
     }
 }

@@ -2,8 +2,8 @@
 ghost use mathlib.Core.Path.{_≡_};
 ghost use Prim.Native.Nat.{_≤_};
 ghost use Rattle.calendars.specs.Hebrew.{hebrew, hebrew-year, new-year, leap-year, elapsed, correction, second, third, laid-out};
-use super::codes::TWELVE;
-use super::codes::WITH_5L;
+use super::codes::twelve;
+use super::codes::with_5l;
 use calendar::Sheet;
 use calendar::Sheets;
 
@@ -79,14 +79,14 @@ fn lay_out(leap: bool, first: u32, days: u32) -> Sheet
         Sheet {
             first,
             months: 13,
-            codes: WITH_5L,
+            codes: with_5l(),
             lengths: [30, second, third, 29, 30, 30, 29, 30, 29, 30, 29, 30, 29],
         }
     } else {
         Sheet {
             first,
             months: 12,
-            codes: TWELVE,
+            codes: twelve(),
             lengths: [30, second, third, 29, 30, 29, 30, 29, 30, 29, 30, 29, 0],
         }
     }

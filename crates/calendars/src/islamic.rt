@@ -2,7 +2,7 @@
 ghost use mathlib.Core.Path.{_≡_};
 ghost use Prim.Native.Nat.{_≤_};
 ghost use Rattle.calendars.specs.Islamic.{islamic-civil, islamic-year, leap-year};
-use super::codes::TWELVE;
+use super::codes::twelve;
 use calendar::Sheet;
 use calendar::Sheets;
 
@@ -29,7 +29,7 @@ fn year_sheet(year: u32) -> Sheet
     Sheet {
         first: 227_015 + 354 * (year - 1) + (3 + 11 * year) / 30,
         months: 12,
-        codes: TWELVE,
+        codes: twelve(),
         lengths: [30, 29, 30, 29, 30, 29, 30, 29, 30, 29, 30, twelfth, 0],
     }
 }

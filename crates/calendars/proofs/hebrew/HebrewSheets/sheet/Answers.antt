@@ -13,4 +13,4 @@ returns-then-contains c =
 pub returns-else-contains : need.returns-else-contains
 returns-else-contains c =
     let h = c .if-contains .ensures tt .cases in
-    c .empty .ensures ∙ sym (silent _ _ _ hebrew-years (c .args .year) (λ l g. grind (arith, h)))
+    c .empty .ensures ∙ sym (silent _ _ hebrew-years (c .args .year) (λ l g. grind (arith, h)))
