@@ -2,3 +2,5 @@ pub mod Years
 pub mod Dating
 pub mod Tested
 pub mod Places
+pub mod Codes
+pub mod Naming

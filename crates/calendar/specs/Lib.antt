@@ -2,3 +2,4 @@ pub mod Sheets
 pub mod Laws
 pub mod Shelves
 pub mod Search
+pub mod Dates

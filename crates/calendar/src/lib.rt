@@ -3,10 +3,15 @@ ghost use mathlib.Core.Path.{_≡_};
 ghost use Rattle.calendar.specs.Sheets.{Almanac, Dated};
 ghost use Rattle.calendar.specs.Laws.{Lawful};
 
+mod dates;
 mod search;
 mod sheet;
 mod shelf;
 
+pub use dates::NamedDate;
+pub use dates::date_named;
+pub use dates::day_named;
+pub use dates::place_of;
 pub use search::date_from;
 pub use sheet::MonthCode;
 pub use sheet::Sheet;
