@@ -4,3 +4,4 @@ pub mod Tested
 pub mod Places
 pub mod Codes
 pub mod Naming
+pub mod Following

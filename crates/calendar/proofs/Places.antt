@@ -10,8 +10,9 @@ use native.Mathlib.Omega.{arith}
 use lib.Dec.{eqb}
 use lib.ListN.{length, take, length-take}
 use Rattle.std.specs.Text.{lower}
-use Rattle.std.proofs.shelf.Tests.{eq-eqb, ne-eqb, cond-true, cond-false, cases-eq}
+use Rattle.std.proofs.shelf.Tests.{ne-eqb, eqb-false, cond-false, cond-both, cases-eq}
 use Rattle.calendar.specs.Sheets.{Almanac}
+use Rattle.calendar.specs.Laws.{Lawful}
 use Rattle.calendar.specs.Shelves.{almanac-at, Bears, Found, All-lawful}
 use Rattle.std.specs.declared.option.Option.the-variants.{Some, None}
 
@@ -41,6 +42,13 @@ pub lawful-take : (l : List Almanac) (n : ℕ) → All-lawful l → All-lawful (
 lawful-take l zero all = tt
 lawful-take [] (suc n) all = tt
 lawful-take (a ∷ l) (suc n) all = (all .0, lawful-take l n (all .1))
+
+-- the calendar at a place of a lawful shelf is lawful
+pub lawful-at : (l : List Almanac) → All-lawful l → (i : ℕ) → i < length l → Lawful (almanac-at l i)
+lawful-at [] all i h = absurd (not-suc-le-zero h)
+lawful-at (a ∷ l) all i h =
+    cond-both (eqb i 0) a (almanac-at l (i - 1)) Lawful (λ _. all .0)
+    (λ e. let other = eqb-false i 0 e in lawful-at l (all .1) (i - 1) (omega arith))
 
 module _ (name : List ℕ) where
   pub bears-take : (l : List Almanac) (n i : ℕ) → i < n → Bears l name i → Bears (take n l) name i

@@ -3,3 +3,4 @@ pub mod Laws
 pub mod Shelves
 pub mod Search
 pub mod Dates
+pub mod Consequences

@@ -1,8 +1,12 @@
 // Dates by the codes of their months, and the days that they name.
 ghost use mathlib.Core.Path.{_≡_};
-ghost use Prim.Native.Nat.{_≤_};
+ghost use mathlib.Core.Bool.{true};
+ghost use Prim.Native.Nat.{_<_, _≤_};
+ghost use lib.ListN.{length};
+ghost use Rattle.std.specs.Options.{isSome};
 ghost use Rattle.days.specs.Months.{Counted};
 ghost use Rattle.calendar.specs.Sheets.{lengths-of};
+ghost use Rattle.calendar.specs.Laws.{Covered};
 ghost use Rattle.calendar.specs.Dates.{Code-found, Date-named, Day-named};
 ghost use Rattle.calendar.specs.Shelves.{almanac-at};
 use crate::MonthCode;
@@ -42,9 +46,10 @@ fn days_into(sheet: &Sheet, month: u8, day: u8) -> Option<u32>
     days_past(&sheet.lengths[0..months], month, day)
 }
 
-// The date of a day in the calendar at a place of the shelf.
+// The date of a day in the calendar at a place of the shelf. A covered day has one in every calendar.
 pub fn date_named<S: Shelf>(shelf: &S, place: usize, day: u32) -> Option<NamedDate>
-    ensures { λ r. ⌜ Date-named (almanac-at (S·Shelf .held (now (shelf .entry))) place) day r ⌝ }
+    ensures named { λ r. ⌜ Date-named (almanac-at (S·Shelf .held (now (shelf .entry))) place) day r ⌝ }
+    ensures covered { λ r. ⌜ (place < length (S·Shelf .held (now (shelf .entry))) → Covered day → isSome r ≡ true) ⌝ }
 {
     match shelf.date(place, day) {
         Some((year, month, date)) => {

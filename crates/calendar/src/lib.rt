@@ -3,11 +3,14 @@ ghost use mathlib.Core.Path.{_≡_};
 ghost use Rattle.calendar.specs.Sheets.{Almanac, Dated};
 ghost use Rattle.calendar.specs.Laws.{Lawful};
 
+mod consequences;
 mod dates;
 mod search;
 mod sheet;
 mod shelf;
 
+pub use consequences::laws_give;
+pub use consequences::laws_shut_out;
 pub use dates::NamedDate;
 pub use dates::date_named;
 pub use dates::day_named;

@@ -3,7 +3,7 @@ use mathlib.Core.Path.{_≡_, refl, sym, _∙_, ap, subst}
 use mathlib.Core.List.{List, [], _∷_}
 use mathlib.Core.Logic.{⊎-elim, _⊎_}
 use Prim.Native.Nat.{ℕ, zero, suc, _+_, _-_, _<_, _≤_}
-use native.Mathlib.Nat.{add-assoc}
+use native.Mathlib.Nat.{add-assoc, not-suc-le-zero}
 use native.Mathlib.Numerals.{add-one}
 use native.Mathlib.Omega.{arith}
 use lib.ListN.{length, getD, take}
@@ -75,3 +75,26 @@ falls-once xs n p d q e f g =
     (cases-lt p q) in
     let b : before xs p ≡ before xs q = ap (before xs) same in
     (same, omega arith)
+
+-- a day before the year is over falls somewhere
+pub falls-somewhere : (xs : List ℕ) (n : ℕ) → n < total xs → (p : ℕ) × (d : ℕ) × Falls xs n p d
+falls-somewhere [] n h = absurd (not-suc-le-zero h)
+falls-somewhere (x ∷ xs) n h =
+    ⊎-elim
+    (λ (l : n < x).
+    (1, n + 1, record { has = record { place-from = omega arith; place-to = omega arith; day-from = omega arith; day-to = omega arith }; after = omega arith }))
+    (λ (l : x ≤ n).
+    let f = falls-somewhere xs (n - x) (omega arith) in
+    let has = f .2 .has in
+    let pf = has .place-from in
+    let pt = has .place-to in
+    let e : f .0 + 1 - 1 ≡ suc (f .0 - 1) = omega arith in
+    let after = f .2 .after in (
+      f .0 + 1,
+      f .1,
+      record {
+        has = record { place-from = omega arith; place-to = omega arith; day-from = has .day-from; day-to = rw e (has .day-to) };
+        after = rw e (omega arith);
+      },
+    ))
+    (cases-lt n x)

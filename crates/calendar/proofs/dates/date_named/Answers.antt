@@ -8,6 +8,8 @@ use Rattle.calendar.specs.declared.sheet.Sheet.{Sheet}
 use Rattle.calendar.specs.Sheets.{code-at, no-code}
 use Rattle.calendar.specs.Dates.{Date-named}
 use Rattle.calendar.specs.Shelves.{almanac-at}
+use Rattle.calendar.proofs.Places.{lawful-at}
+use Rattle.calendar.proofs.Following.{shut-out}
 use Rattle.calendar.proofs.Naming.{sound, month-of, date-named-some, date-named-none}
 use Rattle.calendar.proofs.Codes.{code-here}
 use Rattle.calendar.proofs.dates.date_named.Given.{Over}
@@ -37,9 +39,17 @@ returns-in-Some g c =
     let m = month g (at·returns-in-Some g c .After-sheet) in
     let code : code-at (a .sheet y) p ≡ getD (c .sheet .result .codes) (p - 1) no-code =
     code-here (a .sheet y) p (m .0) (m .1) ∙ sym (ap (λ (s : Sheet). getD (s .codes) (p - 1) no-code) (c .sheet .ensures)) in
-    subst (λ (x : MonthCode). Date-named a (c .args .day) (Some (record { year = y; code = x; day = c .in-Some .date }))) code
-    (date-named-some a (c .args .day) y p (c .in-Some .date) (c .in-Some .ensures tt))
+    record {
+      named = subst (λ (x : MonthCode). Date-named a (c .args .day) (Some (record { year = y; code = x; day = c .in-Some .date }))) code
+          (date-named-some a (c .args .day) y p (c .in-Some .date) (c .in-Some .ensures tt));
+      covered = λ _ _. refl;
+    }
 
 pub returns-in-None : need.returns-in-None
 returns-in-None g c =
-    date-named-none (almanac-at (g .S·Shelf .held (c .args .shelf .now)) (c .args .place)) (c .args .day) (c .in-None .ensures tt)
+    let l = g .S·Shelf .held (c .args .shelf .now) in
+    let a = almanac-at l (c .args .place) in
+    record {
+      named = date-named-none a (c .args .day) (c .in-None .ensures tt);
+      covered = λ on day. absurd (shut-out .no-date a (lawful-at l (g .S·Shelf·met .lawful (c .args .shelf .now)) (c .args .place) on) (c .args .day) day (c .in-None .ensures tt));
+    }
