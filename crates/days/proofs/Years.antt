@@ -5,6 +5,9 @@ use mathlib.Core.Logic.{⊎-elim, _⊎_}
 use mathlib.Core.List.{List}
 use Prim.Native.Nat.{ℕ, _+_, _-_, _<_, _≤_}
 use native.Mathlib.Omega.{arith}
+use borrow.Author.Needs.{needs}
+use Rattle.std.specs.shelf.Lists.{All}
+use Rattle.std.proofs.shelf.Elements.{all-getD}
 use Rattle.std.proofs.shelf.Tests.{cases-lt, cases-bool, cond-true, cond-false, and-parts, leb-true}
 use Rattle.std.proofs.shelf.Ways.{tells}
 use Rattle.std.specs.declared.option.Option.{Option}
@@ -15,7 +18,10 @@ use Rattle.days.proofs.Totals.{falls-within, falls-once}
 
 -- an answer is none or not
 pub none-some : {A : Type 0} (x : A) → None ≡ Some x → ⊥
-none-some x e = let z : _≡_ {A = ℕ} 0 1 = cc in omega arith
+none-some x e = grind arith
+
+pub some-same : {A : Type 0} (x y : A) → Some x ≡ Some y → x ≡ y
+some-same x y e = cc
 
 none-unless : {A : Type 0} (o : Option A) → ((x : A) → o ≡ Some x → ⊥) → None ≡ o
 none-unless (Some x) h = absurd (h x refl)
@@ -132,7 +138,7 @@ dated-once n y m d z p e f g =
 pub date-of-some : (n y m d : ℕ) → Dated n y m d → Date-of n (Some (y, m, d))
 date-of-some n y m d h = record {
   right = λ z p e s.
-      let t : _≡_ {A = ℕ × ℕ × ℕ} (y, m, d) (z, p, e) = cc in
+      let t = some-same _ _ s in
       subst (λ (t : ℕ × ℕ × ℕ). day-of-date (t .0) (t .1) (t .2) ≡ Some n) t (date y m d n h);
   only = λ z p e s.
       let once = dated-once n y m d z p e h (dated z p e n s) in
@@ -152,3 +158,17 @@ date-of-none n h = record {
 pub no-day : (lengths : List ℕ) (y m d : ℕ) → lengths ≡ month-lengths y → Counted lengths m d None → None ≡ day-of-date y m d
 no-day lengths y m d e c =
     none-unless _ (λ n s. none-some _ (c .only (n - new-year y) (simp e (dated y m d n s .falls))))
+
+-- no month has more than 31 days
+months-most : (y : ℕ) → All (λ n. n ≤ 31) (month-lengths y)
+months-most y = search needs
+
+-- how large the numbers of a date can be
+pub date-bounds : (y m d n : ℕ) → day-of-date y m d ≡ Some n → (y ≤ 9999) × (m ≤ 99) × (d ≤ 99)
+date-bounds y m d n e =
+    let h = dated y m d n e in
+    let from = h .falls .has .place-from in
+    let to = h .falls .has .place-to in
+    let day = h .falls .has .day-to in
+    let most = all-getD (λ n. n ≤ 31) (month-lengths y) (m - 1) 0 (omega arith) (months-most y) in
+    (h .year .year-to, omega arith, omega arith)
