@@ -8,7 +8,7 @@ use native.Mathlib.Omega.{arith}
 use lib.Dec.{eqb, lit<}
 use lib.ListN.{length, getD, take, drop, set}
 use Rattle.std.proofs.shelf.Lists.{drop-more, drop-all, getD-map, take-more-set, map-more}
-use Rattle.std.proofs.shelf.Tests.{cases-bool, cond-true, cond-false, and-parts, leb-true, eqb-true, eq-eqb}
+use Rattle.std.proofs.shelf.Tests.{cases-bool, cond-true, cond-false, eqb-true, eq-eqb}
 use Rattle.std.proofs.shelf.Ways.{tells}
 use Rattle.std.specs.declared.option.Option.{Option}
 use Rattle.std.specs.declared.option.Option.the-variants.{Some, None}
@@ -19,7 +19,7 @@ use Rattle.days.specs.declared.digits.DateFault.{DateFault}
 use Rattle.days.specs.declared.digits.DateFault.the-variants.{Length, NoDigit, NoSuchDay}
 use Rattle.days.specs.Numbers.{In-range}
 use Rattle.days.specs.Gregorian.{day-of-date, Date-of}
-use Rattle.days.specs.Digits.{digit, first-other, written-after, year-of, month-of, day-of, or-no-such-day, day-named, date-read, values-named, values-read, last-digit, date-text, Written}
+use Rattle.days.specs.Digits.{digit, first-other, year-of, month-of, day-of, or-no-such-day, day-named, date-read, values-named, values-read, last-digit, date-text, Written}
 use Rattle.days.proofs.Years.{none-some, some-same, date-bounds}
 
 -- eight bytes, each a digit
@@ -27,45 +27,50 @@ pub record Eight (bs : List ℕ) : Type 0 where
   pub long : length bs ≡ 8
   pub none-other : first-other 0 bs ≡ None
 
--- each byte is a digit where no other byte is found
-pub all-digits : (i : ℕ) (bs : List ℕ) → first-other i bs ≡ None → (k : ℕ) → k < length bs → (48 ≤ getD bs k 0) × (getD bs k 0 ≤ 57)
-all-digits i [] e k h = absurd (omega arith)
-all-digits i (b ∷ bs) e zero h =
-    ⊎-elim (λ (t : digit b ≡ true). (grind (arith, tells), grind (arith, tells)))
-    (λ (t : digit b ≡ false). absurd (none-some i (sym e ∙ cond-false (digit b) (first-other (i + 1) bs) (Some i) t)))
-    (cases-bool (digit b))
-all-digits i (b ∷ bs) e (suc k) h =
+-- a byte that is a digit
+abbrev Digit : ℕ → Type 0
+Digit b = (48 ≤ b) × (b ≤ 57)
+
+-- where no other byte is found, the first is a digit, and none is found after it
+first-digit : (i b : ℕ) (bs : List ℕ) → first-other i (b ∷ bs) ≡ None → Digit b × (first-other (i + 1) bs ≡ None)
+first-digit i b bs e =
     ⊎-elim
     (λ (t : digit b ≡ true).
-    all-digits (i + 1) bs (sym (cond-true (digit b) (first-other (i + 1) bs) (Some i) t) ∙ e) k (omega arith))
+    ((grind (arith, tells), grind (arith, tells)), sym (cond-true (digit b) (first-other (i + 1) bs) (Some i) t) ∙ e))
     (λ (t : digit b ≡ false). absurd (none-some i (sym e ∙ cond-false (digit b) (first-other (i + 1) bs) (Some i) t)))
     (cases-bool (digit b))
 
--- eight bytes, one by one
-pub cells : (bs : List ℕ) → length bs ≡ 8 →
-    bs ≡ getD bs 0 0 ∷ getD bs 1 0 ∷ getD bs 2 0 ∷ getD bs 3 0 ∷ getD bs 4 0 ∷ getD bs 5 0 ∷ getD bs 6 0 ∷ getD bs 7 0 ∷ []
-cells bs h =
-    let d0 = drop-more bs 0 0 (omega arith) in
-    let d1 = drop-more bs 1 0 (omega arith) in
-    let d2 = drop-more bs 2 0 (omega arith) in
-    let d3 = drop-more bs 3 0 (omega arith) in
-    let d4 = drop-more bs 4 0 (omega arith) in
-    let d5 = drop-more bs 5 0 (omega arith) in
-    let d6 = drop-more bs 6 0 (omega arith) in
-    let d7 = drop-more bs 7 0 (omega arith) in
-    let d8 = drop-all 8 bs (omega arith) in
-    cc
+all-digits : (i : ℕ) (bs : List ℕ) → first-other i bs ≡ None → (k : ℕ) → k < length bs → Digit (getD bs k 0)
+all-digits i [] e k h = absurd (omega arith)
+all-digits i (b ∷ bs) e zero h = first-digit i b bs e .0
+all-digits i (b ∷ bs) e (suc k) h = all-digits (i + 1) bs (first-digit i b bs e .1) k (omega arith)
+
+digit-at : (bs : List ℕ) → Eight bs → (k : ℕ) → k < 8 → Digit (getD bs k 0)
+digit-at bs h k i = let l = h .long in all-digits 0 bs (h .none-other) k (omega arith)
+
+-- n bytes from place i on, one by one
+abbrev bytes-from : ℕ → ℕ → List ℕ → List ℕ
+bytes-from zero i bs = []
+bytes-from (suc n) i bs = getD bs i 0 ∷ bytes-from n (i + 1) bs
+
+one-by-one : (n i : ℕ) (bs : List ℕ) → length bs ≡ i + n → drop i bs ≡ bytes-from n i bs
+one-by-one zero i bs h = drop-all i bs (omega arith)
+one-by-one (suc n) i bs h =
+    drop-more bs i 0 (omega arith) ∙ ap (λ l. getD bs i 0 ∷ l) (one-by-one n (i + 1) bs (omega arith))
+
+eight-bytes : (bs : List ℕ) → Eight bs → bs ≡ bytes-from 8 0 bs
+eight-bytes bs h = one-by-one 8 0 bs (h .long)
 
 -- the numbers that they write
-pub year-is : (bs : List ℕ) → Eight bs →
+year-is : (bs : List ℕ) → Eight bs →
     year-of bs ≡ 1000 * (getD bs 0 0 - 48) + 100 * (getD bs 1 0 - 48) + 10 * (getD bs 2 0 - 48) + (getD bs 3 0 - 48)
-year-is bs h = ap year-of (cells bs (h .long)) ∙ omega arith
+year-is bs h = ap year-of (eight-bytes bs h) ∙ omega arith
 
-pub month-is : (bs : List ℕ) → Eight bs → month-of bs ≡ 10 * (getD bs 4 0 - 48) + (getD bs 5 0 - 48)
-month-is bs h = ap month-of (cells bs (h .long)) ∙ omega arith
+month-is : (bs : List ℕ) → Eight bs → month-of bs ≡ 10 * (getD bs 4 0 - 48) + (getD bs 5 0 - 48)
+month-is bs h = ap month-of (eight-bytes bs h) ∙ omega arith
 
-pub day-is : (bs : List ℕ) → Eight bs → day-of bs ≡ 10 * (getD bs 6 0 - 48) + (getD bs 7 0 - 48)
-day-is bs h = ap day-of (cells bs (h .long)) ∙ omega arith
+day-is : (bs : List ℕ) → Eight bs → day-of bs ≡ 10 * (getD bs 6 0 - 48) + (getD bs 7 0 - 48)
+day-is bs h = ap day-of (eight-bytes bs h) ∙ omega arith
 
 or-okOr : (o : Option ℕ) → or-no-such-day o ≡ okOr o NoSuchDay
 or-okOr (Some n) = refl
@@ -82,13 +87,13 @@ eight-true f h true (Some i) x e = let k = h i in let z : _≡_ {A = ℕ} 0 1 = 
 eight-true f h true None x e = (refl, refl, e)
 eight-true f h false o x e = let z : _≡_ {A = ℕ} 0 1 = cc in absurd (omega arith)
 
-pub eight-asked : {X : Type 0} (f : Option ℕ → Result X DateFault) → ((i : ℕ) → f (Some i) ≡ Err (NoDigit i)) →
+eight-asked : {X : Type 0} (f : Option ℕ → Result X DateFault) → ((i : ℕ) → f (Some i) ≡ Err (NoDigit i)) →
     (bs : List ℕ) (x : X) → cond (eqb (length bs) 8) (f (first-other 0 bs)) (Err Length) ≡ Ok x → Eight bs × (f None ≡ Ok x)
 eight-asked f h bs x e =
     let t = eight-true f h (eqb (length bs) 8) (first-other 0 bs) x e in
     (record { long = eqb-true _ _ (t .0); none-other = t .1 }, t .2)
 
-pub eight-given : {X : Type 0} (f : Option ℕ → Result X DateFault) (bs : List ℕ) → Eight bs →
+eight-given : {X : Type 0} (f : Option ℕ → Result X DateFault) (bs : List ℕ) → Eight bs →
     cond (eqb (length bs) 8) (f (first-other 0 bs)) (Err Length) ≡ f None
 eight-given f bs h = cond-true _ _ _ (eq-eqb (length bs) 8 (h .long)) ∙ ap f (h .none-other)
 
@@ -112,7 +117,7 @@ valued bs ds e =
     let d = day-is bs (a .0) in
     record {
       eight = a .0;
-      small = λ k h. let d = all-digits 0 bs (a .0 .none-other) k (omega arith) in omega (arith, at k h);
+      small = λ k h. let d = digit-at bs (a .0) k h in omega (arith, at k h);
       year = omega (arith, at 0 (lit< tt), at 1 (lit< tt), at 2 (lit< tt), at 3 (lit< tt));
       month = omega (arith, at 4 (lit< tt), at 5 (lit< tt));
       day = omega (arith, at 6 (lit< tt), at 7 (lit< tt));
@@ -136,7 +141,7 @@ last-digits i (n ∷ ns) =
     let t : digit (last-digit n) ≡ true = grind (arith, tells) in
     cond-true (digit (last-digit n)) (first-other (i + 1) (map last-digit ns)) (Some i) t ∙ last-digits (i + 1) ns
 
-pub text-eight : (y m d : ℕ) → Eight (date-text y m d)
+text-eight : (y m d : ℕ) → Eight (date-text y m d)
 text-eight y m d = record {
   long = refl;
   none-other = last-digits 0 (y / 1000 ∷ y / 100 ∷ y / 10 ∷ y ∷ m / 10 ∷ m ∷ d / 10 ∷ d ∷ []);
@@ -156,36 +161,29 @@ text-month y m d h = omega arith
 text-day : (y m d : ℕ) → d ≤ 99 → d ≡ day-of (date-text y m d)
 text-day y m d h = omega arith
 
+-- the last digits of two
+two : (a b n : ℕ) → Digit a → Digit b → n ≡ 10 * (a - 48) + (b - 48) → (last-digit (n / 10) ≡ a) × (last-digit n ≡ b)
+two a b n f g e = (omega arith, omega arith)
+
 -- and no other text does
-pub text-only : (bs : List ℕ) → Eight bs → date-text (year-of bs) (month-of bs) (day-of bs) ≡ bs
+text-only : (bs : List ℕ) → Eight bs → date-text (year-of bs) (month-of bs) (day-of bs) ≡ bs
 text-only bs h =
-    let l = h .long in
-    let digit-at : (k : ℕ) → k < 8 → (48 ≤ getD bs k 0) × (getD bs k 0 ≤ 57) =
-    λ k i. all-digits 0 bs (h .none-other) k (omega arith) in
-    let b0 = digit-at 0 (lit< tt) in
-    let b1 = digit-at 1 (lit< tt) in
-    let b2 = digit-at 2 (lit< tt) in
-    let b3 = digit-at 3 (lit< tt) in
+    let d0 = digit-at bs h 0 (lit< tt) in
+    let d1 = digit-at bs h 1 (lit< tt) in
+    let d2 = digit-at bs h 2 (lit< tt) in
+    let d3 = digit-at bs h 3 (lit< tt) in
     let y = year-is bs h in
     let e0 : last-digit (year-of bs / 1000) ≡ getD bs 0 0 = omega arith in
     let e1 : last-digit (year-of bs / 100) ≡ getD bs 1 0 = omega arith in
     let e2 : last-digit (year-of bs / 10) ≡ getD bs 2 0 = omega arith in
     let e3 : last-digit (year-of bs) ≡ getD bs 3 0 = omega arith in
-    let b4 = digit-at 4 (lit< tt) in
-    let b5 = digit-at 5 (lit< tt) in
-    let b6 = digit-at 6 (lit< tt) in
-    let b7 = digit-at 7 (lit< tt) in
-    let m = month-is bs h in
-    let d = day-is bs h in
-    let e4 : last-digit (month-of bs / 10) ≡ getD bs 4 0 = omega arith in
-    let e5 : last-digit (month-of bs) ≡ getD bs 5 0 = omega arith in
-    let e6 : last-digit (day-of bs / 10) ≡ getD bs 6 0 = omega arith in
-    let e7 : last-digit (day-of bs) ≡ getD bs 7 0 = omega arith in
-    let c = cells bs l in
+    let m = two _ _ (month-of bs) (digit-at bs h 4 (lit< tt)) (digit-at bs h 5 (lit< tt)) (month-is bs h) in
+    let d = two _ _ (day-of bs) (digit-at bs h 6 (lit< tt)) (digit-at bs h 7 (lit< tt)) (day-is bs h) in
+    let e = eight-bytes bs h in
     cc
 
 -- what reads as a day is eight digits that name it
-pub named : (bs : List ℕ) (n : ℕ) → date-read bs ≡ Ok n → Eight bs × (day-of-date (year-of bs) (month-of bs) (day-of bs) ≡ Some n)
+named : (bs : List ℕ) (n : ℕ) → date-read bs ≡ Ok n → Eight bs × (day-of-date (year-of bs) (month-of bs) (day-of bs) ≡ Some n)
 named bs n e =
     let a = eight-asked (λ o. day-named o bs) (λ i. refl) bs n e in
     (a .0, some-named _ n (a .1))
