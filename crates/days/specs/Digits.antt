@@ -1,8 +1,8 @@
 -- Dates as files write them: eight digits, four for the year and two each for month and day. And the way back.
 use mathlib.Core.Path.{_≡_}
 use mathlib.Core.Bool.{Bool, cond, _&&_}
-use mathlib.Core.List.{List, [], _∷_}
-use Prim.Native.Nat.{ℕ, _+_, _-_, _*_}
+use mathlib.Core.List.{List, [], _∷_, map}
+use Prim.Native.Nat.{ℕ, _+_, _-_, _*_, _/_, _%_}
 use lib.Dec.{leb, eqb}
 use lib.ListN.{length, take, drop}
 use Rattle.std.specs.declared.option.Option.{Option}
@@ -48,6 +48,25 @@ day-named None bs = or-no-such-day (day-of-date (year-of bs) (month-of bs) (day-
 -- the day that a text names, or what keeps it from being a real date
 abbrev pub date-read : List ℕ → Result ℕ DateFault
 date-read bs = cond (eqb (length bs) 8) (day-named (first-other 0 bs) bs) (Err Length)
+
+-- the values of eight digits, unless a byte is no digit
+abbrev pub values-named : Option ℕ → List ℕ → Result (List ℕ) DateFault
+values-named (Some i) bs = Err (NoDigit i)
+values-named None bs = Ok (map (λ b. b - 48) bs)
+
+-- the values of the eight digits of a text, or what keeps it from being eight digits
+abbrev pub values-read : List ℕ → Result (List ℕ) DateFault
+values-read bs = cond (eqb (length bs) 8) (values-named (first-other 0 bs) bs) (Err Length)
+
+-- the last digit of n as a byte
+abbrev pub last-digit : ℕ → ℕ
+last-digit n = 48 + n % 10
+
+-- the eight digits of a date
+abbrev pub date-text : ℕ → ℕ → ℕ → List ℕ
+date-text y m d =
+    last-digit (y / 1000) ∷ last-digit (y / 100) ∷ last-digit (y / 10) ∷ last-digit y ∷
+    last-digit (m / 10) ∷ last-digit m ∷ last-digit (d / 10) ∷ last-digit d ∷ []
 
 -- the answer is the text of the day n, the one that reads as n, and there is one exactly if n is in the range
 pub record Written (n : ℕ) (r : Option (List ℕ)) : Type 0 where

@@ -2,7 +2,7 @@
 use mathlib.Core.Path.{_≡_}
 use mathlib.Core.Bool.{Bool, cond, not, _&&_, _||_}
 use mathlib.Core.List.{List, [], _∷_}
-use Prim.Native.Nat.{ℕ, _+_, _-_, _*_, _/_, _%_, _≤_}
+use Prim.Native.Nat.{ℕ, _+_, _-_, _*_, _/_, _%_, _<_, _≤_}
 use lib.Dec.{leb, eqb}
 use lib.ListN.{length}
 use Rattle.std.specs.declared.option.Option.{Option}
@@ -33,3 +33,15 @@ day-number y m d = new-year y + before (month-lengths y) m + (d - 1)
 -- the day of a real date, or none
 abbrev pub day-of-date : ℕ → ℕ → ℕ → Option ℕ
 day-of-date y m d = cond (real y m d) (Some (day-number y m d)) None
+
+-- the year y has the day n
+pub record In-year (n y : ℕ) : Type 0 where
+  pub year-from : 1 ≤ y
+  pub year-to : y ≤ 9999
+  pub begun : new-year y ≤ n
+  pub not-over : n < new-year (y + 1)
+
+-- the answer is the date of the day n, and none exactly if no real date has that number
+pub record Date-of (n : ℕ) (r : Option (ℕ × ℕ × ℕ)) : Type 0 where
+  pub right : (y m d : ℕ) → r ≡ Some (y, m, d) → day-of-date y m d ≡ Some n
+  pub only : (y m d : ℕ) → day-of-date y m d ≡ Some n → r ≡ Some (y, m, d)

@@ -1,7 +1,9 @@
 -- Day numbers. Day 1 is 1 January of year 1 of the Gregorian calendar, carried back before its introduction.
 -- The range is what events may use, the span what calendars may answer. A weekday is a day number's remainder by 7.
 use Prim.Native.Nat.{ℕ, _≤_}
+use mathlib.Core.Bool.{Bool, _&&_}
 use mathlib.Core.List.{List}
+use lib.Dec.{leb}
 use lib.Chars.{codes}
 use Rattle.days.specs.declared.weekday.Weekday.{Weekday}
 use Rattle.days.specs.declared.weekday.Weekday.the-variants.{Sunday, Monday, Tuesday, Wednesday, Thursday, Friday, Saturday}
@@ -10,6 +12,10 @@ use Rattle.days.specs.declared.weekday.Weekday.the-variants.{Sunday, Monday, T
 pub record In-range (n : ℕ) : Type 0 where
   pub from : 693596 ≤ n
   pub to : n ≤ 803168
+
+-- the same as a test
+abbrev pub in-range : ℕ → Bool
+in-range n = leb 693596 n && leb n 803168
 
 -- the days in which every answered year of a calendar lies
 pub record In-span (n : ℕ) : Type 0 where
