@@ -30,11 +30,7 @@ pub sound-lawful : (a : Almanac) → Lawful a → Sound a
 sound-lawful a l =
     record {
       months = months-most a l;
-      ends = λ n y p d s.
-          let w = stands-within a n y p d s in
-          let t = w .to in
-          let i = l .in-span y (w .answered) in
-          omega arith;
+      ends = λ n y p d s. l .in-span n y (stands-within a n y p d s) .to;
       code-once = λ y c p q b d. let f = b .from in let t = b .to in code-once a l y (omega arith) c p q b d;
     }
 

@@ -303,7 +303,9 @@ module _ (a : Almanac) (t : Tested a) where
         numbered = λ y h. let s = in-years y h in omega (arith, ltb-true (a .highest) (2 ^ 32) (bound .1 .0));
         answers = answers;
         only = in-years;
-        in-span = λ y h. (good-of y h .from, good-of y h .to);
+        in-span = λ n y w.
+            let g = good-of y (w .answered) in
+            record { from = omega (arith, g .from, w .from); to = omega (arith, g .to, w .to) };
         covers = covers;
         meets = λ y h k.
             let b = in-years y h in

@@ -1,12 +1,13 @@
 -- The laws of calendars. A calendar is lawful when its almanac obeys them; that the date question agrees with the sheets
 -- is the contract of that question.
 use mathlib.Core.Path.{_≡_}
-use mathlib.Core.Bool.{Bool, true, false, cond}
+use mathlib.Core.Bool.{true, false, cond}
 use mathlib.Core.List.{List, [], _∷_}
 use mathlib.Core.Logic.{_⊎_}
 use Prim.Native.Nat.{ℕ, zero, suc, _+_, _-_, _^_, _<_, _≤_}
 use lib.ListN.{length, drop, replicate}
 use Rattle.days.specs.Months.{length-at}
+use Rattle.days.specs.Numbers.{In-span}
 use Rattle.calendar.specs.declared.sheet.MonthCode.{MonthCode}
 use Rattle.calendar.specs.declared.sheet.Sheet.{Sheet}
 use Rattle.calendar.specs.Sheets.{Almanac, Answered, Within, no-code, codes-of, lengths-of, days-of, code-at}
@@ -48,7 +49,7 @@ pub record Lawful (a : Almanac) : Type 0 where
   -- and each covered day lies in one of them.
   pub answers : (y : ℕ) → a .lowest ≤ y → y ≤ a .highest → Answered a y
   pub only : (y : ℕ) → Answered a y → (a .lowest ≤ y) × (y ≤ a .highest)
-  pub in-span : (y : ℕ) → Answered a y → (693000 ≤ a .sheet y .first) × (a .sheet y .first + days-of (a .sheet y) ≤ 804000 + 1)
+  pub in-span : (n y : ℕ) → Within a n y → In-span n
   pub covers : (n : ℕ) → Covered n → (y : ℕ) × Within a n y
   -- 2. Each answered year begins on the day after the one before it ends.
   pub meets : (y : ℕ) → Answered a y → Answered a (y + 1) → a .sheet (y + 1) .first ≡ a .sheet y .first + days-of (a .sheet y)

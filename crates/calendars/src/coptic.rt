@@ -3,13 +3,18 @@ ghost use mathlib.Core.Path.{_≡_};
 ghost use Prim.Native.Nat.{_≤_};
 ghost use Rattle.calendars.specs.Coptic.{coptic, coptic-year};
 use super::codes::thirteen;
+use calendar::Calendar;
 use calendar::Sheet;
 use calendar::Sheets;
+use calendar::date_from;
 
 // The years that lie wholly in the span.
 const LOWEST: u32 = 1615;
 
 const HIGHEST: u32 = 1917;
+
+// The year from which dates are looked for, in the middle of those.
+const MIDDLE: u32 = 1766;
 
 #[derive(Clone, Copy)]
 pub struct Coptic;
@@ -48,5 +53,11 @@ pub impl Sheets for Coptic as CopticSheets {
         } else {
             Sheet::empty()
         }
+    }
+}
+
+pub impl Calendar for Coptic as CopticCalendar {
+    fn date(&self, day: u32) -> Option<(u32, u8, u8)> {
+        date_from(self, MIDDLE, day)
     }
 }

@@ -1,37 +1,50 @@
 // The Gregorian calendar.
 ghost use mathlib.Core.Path.{_≡_};
 ghost use Prim.Native.Nat.{_≤_};
-ghost use Rattle.days.specs.Gregorian.{leap-year};
 ghost use Rattle.calendars.specs.Gregorian.{gregorian, gregorian-year};
 use super::codes::twelve;
+use calendar::Calendar;
 use calendar::Sheet;
 use calendar::Sheets;
+use calendar::date_from;
+use days::gregorian::month_lengths;
+use days::gregorian::new_year;
 
 // The years that lie wholly in the span.
 const LOWEST: u32 = 1899;
 
 const HIGHEST: u32 = 2201;
 
+// The year from which dates are looked for, in the middle of those.
+const MIDDLE: u32 = 2050;
+
 #[derive(Clone, Copy)]
 pub struct Gregorian;
-
-fn is_leap(year: u32) -> bool
-    ensures { λ r. ⌜ r ≡ leap-year year ⌝ }
-{
-    (year % 4 == 0 && year % 100 != 0) || year % 400 == 0
-}
 
 fn year_sheet(year: u32) -> Sheet
     requires { ⌜ 1 ≤ year ⌝ ∗ ⌜ year ≤ 10000 ⌝ }
     ensures { λ r. ⌜ r ≡ gregorian-year year ⌝ }
 {
-    let past = year - 1;
-    let february = if is_leap(year) { 29 } else { 28 };
+    let [jan, feb, mar, apr, may, jun, jul, aug, sep, oct, nov, dec] = month_lengths(year);
     Sheet {
-        first: 1 + 365 * past + past / 4 - past / 100 + past / 400,
+        first: new_year(year),
         months: 12,
         codes: twelve(),
-        lengths: [31, february, 31, 30, 31, 30, 31, 31, 30, 31, 30, 31, 0],
+        lengths: [
+            jan,
+            feb,
+            mar,
+            apr,
+            may,
+            jun,
+            jul,
+            aug,
+            sep,
+            oct,
+            nov,
+            dec,
+            0,
+        ],
     }
 }
 
@@ -56,5 +69,11 @@ pub impl Sheets for Gregorian as GregorianSheets {
         } else {
             Sheet::empty()
         }
+    }
+}
+
+pub impl Calendar for Gregorian as GregorianCalendar {
+    fn date(&self, day: u32) -> Option<(u32, u8, u8)> {
+        date_from(self, MIDDLE, day)
     }
 }

@@ -4,13 +4,18 @@ ghost use Prim.Native.Nat.{_≤_};
 ghost use Rattle.calendars.specs.Hebrew.{hebrew, hebrew-year, new-year, leap-year, elapsed, correction, second, third, laid-out};
 use super::codes::twelve;
 use super::codes::with_5l;
+use calendar::Calendar;
 use calendar::Sheet;
 use calendar::Sheets;
+use calendar::date_from;
 
 // The years that lie wholly in the span.
 const LOWEST: u32 = 5659;
 
 const HIGHEST: u32 = 5961;
+
+// The year from which dates are looked for, in the middle of those.
+const MIDDLE: u32 = 5810;
 
 #[derive(Clone, Copy)]
 pub struct Hebrew;
@@ -122,5 +127,11 @@ pub impl Sheets for Hebrew as HebrewSheets {
         } else {
             Sheet::empty()
         }
+    }
+}
+
+pub impl Calendar for Hebrew as HebrewCalendar {
+    fn date(&self, day: u32) -> Option<(u32, u8, u8)> {
+        date_from(self, MIDDLE, day)
     }
 }

@@ -3,13 +3,18 @@ ghost use mathlib.Core.Path.{_≡_};
 ghost use Prim.Native.Nat.{_≤_};
 ghost use Rattle.calendars.specs.Islamic.{islamic-civil, islamic-year, leap-year};
 use super::codes::twelve;
+use calendar::Calendar;
 use calendar::Sheet;
 use calendar::Sheets;
+use calendar::date_from;
 
 // The years that lie wholly in the span.
 const LOWEST: u32 = 1316;
 
 const HIGHEST: u32 = 1628;
+
+// The year from which dates are looked for, in the middle of those.
+const MIDDLE: u32 = 1472;
 
 #[derive(Clone, Copy)]
 pub struct IslamicCivil;
@@ -55,5 +60,11 @@ pub impl Sheets for IslamicCivil as IslamicCivilSheets {
         } else {
             Sheet::empty()
         }
+    }
+}
+
+pub impl Calendar for IslamicCivil as IslamicCivilCalendar {
+    fn date(&self, day: u32) -> Option<(u32, u8, u8)> {
+        date_from(self, MIDDLE, day)
     }
 }

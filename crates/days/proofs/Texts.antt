@@ -17,7 +17,7 @@ use Rattle.std.specs.declared.result.Result.the-variants.{Ok, Err}
 use Rattle.std.specs.Options.{okOr}
 use Rattle.days.specs.declared.digits.DateFault.{DateFault}
 use Rattle.days.specs.declared.digits.DateFault.the-variants.{Length, NoDigit, NoSuchDay}
-use Rattle.days.specs.Numbers.{In-range}
+use Rattle.days.specs.Numbers.{in-range}
 use Rattle.days.specs.Gregorian.{day-of-date, Date-of}
 use Rattle.days.specs.Digits.{digit, first-other, year-of, month-of, day-of, or-no-such-day, day-named, date-read, values-named, values-read, last-digit, date-text, Written}
 use Rattle.days.proofs.Years.{none-some, some-same, date-bounds}
@@ -189,7 +189,7 @@ named bs n e =
     (a .0, some-named _ n (a .1))
 
 -- the answer of the way back
-pub written-some : (n y m d : ℕ) (r : List ℕ) → In-range n → Date-of n (Some (y, m, d)) → r ≡ date-text y m d → Written n (Some r)
+pub written-some : (n y m d : ℕ) (r : List ℕ) → in-range n ≡ true → Date-of n (Some (y, m, d)) → r ≡ date-text y m d → Written n (Some r)
 written-some n y m d r i h e =
     let s = h .right y m d refl in
     let b = date-bounds y m d n s in

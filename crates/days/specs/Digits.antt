@@ -1,6 +1,6 @@
 -- Dates as files write them: eight digits, four for the year and two each for month and day. And the way back.
 use mathlib.Core.Path.{_≡_}
-use mathlib.Core.Bool.{Bool, cond, _&&_}
+use mathlib.Core.Bool.{Bool, true, cond, _&&_}
 use mathlib.Core.List.{List, [], _∷_, map}
 use Prim.Native.Nat.{ℕ, _+_, _-_, _*_, _/_, _%_}
 use lib.Dec.{leb, eqb}
@@ -11,7 +11,7 @@ use Rattle.std.specs.declared.result.Result.{Result}
 use Rattle.std.specs.declared.result.Result.the-variants.{Ok, Err}
 use Rattle.days.specs.declared.digits.DateFault.{DateFault}
 use Rattle.days.specs.declared.digits.DateFault.the-variants.{Length, NoDigit, NoSuchDay}
-use Rattle.days.specs.Numbers.{In-range}
+use Rattle.days.specs.Numbers.{in-range}
 use Rattle.days.specs.Gregorian.{day-of-date}
 
 abbrev pub digit : ℕ → Bool
@@ -70,5 +70,5 @@ date-text y m d =
 
 -- the answer is the text of the day n, the one that reads as n, and there is one exactly if n is in the range
 pub record Written (n : ℕ) (r : Option (List ℕ)) : Type 0 where
-  pub reads : (bs : List ℕ) → r ≡ Some bs → In-range n × (date-read bs ≡ Ok n)
-  pub only : (bs : List ℕ) → In-range n → date-read bs ≡ Ok n → r ≡ Some bs
+  pub reads : (bs : List ℕ) → r ≡ Some bs → (in-range n ≡ true) × (date-read bs ≡ Ok n)
+  pub only : (bs : List ℕ) → in-range n ≡ true → date-read bs ≡ Ok n → r ≡ Some bs

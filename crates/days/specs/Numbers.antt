@@ -9,11 +9,6 @@ use Rattle.days.specs.declared.weekday.Weekday.{Weekday}
 use Rattle.days.specs.declared.weekday.Weekday.the-variants.{Sunday, Monday, Tuesday, Wednesday, Thursday, Friday, Saturday}
 
 -- the days from 1900-01-01 to 2199-12-31
-pub record In-range (n : ℕ) : Type 0 where
-  pub from : 693596 ≤ n
-  pub to : n ≤ 803168
-
--- the same as a test
 abbrev pub in-range : ℕ → Bool
 in-range n = leb 693596 n && leb n 803168
 
