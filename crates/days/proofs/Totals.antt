@@ -1,7 +1,7 @@
 -- What the lengths of a year's months say of its days: sums of months, and that each day falls in just one place.
-use mathlib.Core.Path.{_≡_, refl, sym, _∙_, ap, subst}
+use mathlib.Core.Path.{_≡_, refl, sym, _∙_, ap}
 use mathlib.Core.List.{List, [], _∷_}
-use mathlib.Core.Logic.{⊎-elim, _⊎_}
+use mathlib.Core.Logic.{⊎-elim}
 use Prim.Native.Nat.{ℕ, zero, suc, _+_, _-_, _<_, _≤_}
 use native.Mathlib.Nat.{add-assoc, not-suc-le-zero}
 use native.Mathlib.Numerals.{add-one}
@@ -9,7 +9,7 @@ use native.Mathlib.Omega.{arith}
 use lib.ListN.{length, getD, take}
 use Rattle.std.proofs.shelf.Lists.{take-all}
 use Rattle.std.proofs.shelf.Tests.{cases-lt}
-use Rattle.days.specs.Months.{total, before, length-at, Has, Falls}
+use Rattle.days.specs.Months.{total, before, length-at, Falls}
 
 total-suc : (xs : List ℕ) (i : ℕ) → total (take (suc i) xs) ≡ total (take i xs) + getD xs i 0
 total-suc [] zero = refl

@@ -1,7 +1,7 @@
 -- The years of the Gregorian calendar: each begins where the one before it ends, and a date is a day of one year.
 use mathlib.Core.Path.{_≡_, refl, sym, _∙_, ap, subst}
-use mathlib.Core.Bool.{Bool, true, false, cond}
-use mathlib.Core.Logic.{⊎-elim, _⊎_}
+use mathlib.Core.Bool.{true, false}
+use mathlib.Core.Logic.{⊎-elim}
 use mathlib.Core.List.{List}
 use Prim.Native.Nat.{ℕ, _+_, _-_, _<_, _≤_}
 use native.Mathlib.Omega.{arith}
@@ -12,8 +12,8 @@ use Rattle.std.proofs.shelf.Tests.{cases-lt, cases-bool, cond-true, cond-false,
 use Rattle.std.proofs.shelf.Ways.{tells}
 use Rattle.std.specs.declared.option.Option.{Option}
 use Rattle.std.specs.declared.option.Option.the-variants.{Some, None}
-use Rattle.days.specs.Months.{total, before, length-at, Has, Falls, Counted}
-use Rattle.days.specs.Gregorian.{new-year, leap-year, february, month-lengths, real, day-number, day-of-date, In-year, Date-of}
+use Rattle.days.specs.Months.{total, Has, Falls, Counted}
+use Rattle.days.specs.Gregorian.{new-year, month-lengths, real, day-number, day-of-date, In-year, Date-of}
 use Rattle.days.proofs.Totals.{falls-within, falls-once}
 
 -- an answer is none or not
@@ -32,14 +32,14 @@ pub next-year : (y : ℕ) → 1 ≤ y → new-year (y + 1) ≡ new-year y + tota
 next-year y h = grind (arith, tells)
 
 -- a later year begins no sooner than an earlier one is over
-pub new-year-later : (y z : ℕ) → y < z → new-year (y + 1) ≤ new-year z
+new-year-later : (y z : ℕ) → y < z → new-year (y + 1) ≤ new-year z
 new-year-later y z h =
     ⊎-elim (λ (l : y + 1 < z). omega arith)
     (λ (l : z ≤ y + 1). let e : y + 1 ≡ z = omega arith in rw e (omega arith))
     (cases-lt (y + 1) z)
 
 -- a day lies in one year only
-pub year-once : (n y z : ℕ) → In-year n y → In-year n z → y ≡ z
+year-once : (n y z : ℕ) → In-year n y → In-year n z → y ≡ z
 year-once n y z f g =
     let fb = f .begun in
     let gb = g .begun in
@@ -63,12 +63,12 @@ year-bounds n y h =
     (omega arith, omega arith)
 
 -- a real date: its year is one of the calendar, and the year has its day
-pub record Real (y m d : ℕ) : Type 0 where
+record Real (y m d : ℕ) : Type 0 where
   pub year-from : 1 ≤ y
   pub year-to : y ≤ 9999
   pub has : Has (month-lengths y) m d
 
-pub real-true : (y m d : ℕ) → real y m d ≡ true → Real y m d
+real-true : (y m d : ℕ) → real y m d ≡ true → Real y m d
 real-true y m d e =
     let p = and-parts _ _ e in
     let yp = and-parts _ _ (p .0) in
@@ -86,7 +86,7 @@ real-true y m d e =
       };
     }
 
-pub true-real : (y m d : ℕ) → Real y m d → real y m d ≡ true
+true-real : (y m d : ℕ) → Real y m d → real y m d ≡ true
 true-real y m d h = grind (arith, tells)
 
 -- the date is real, and n is its day
@@ -101,8 +101,7 @@ dated y m d n e =
     (λ (t : real y m d ≡ true).
     let h = real-true y m d t in
     let yf = h .year-from in
-    let i : day-number y m d ≡ n =
-    let s = sym (cond-true (real y m d) (Some (day-number y m d)) None t) ∙ e in cc in
+    let i = some-same _ _ (sym (cond-true (real y m d) (Some (day-number y m d)) None t) ∙ e) in
     let f : Falls (month-lengths y) (n - new-year y) m d = record { has = h .has; after = omega arith } in
     let w = falls-within (month-lengths y) (n - new-year y) m d f in
     let x = next-year y yf in
@@ -111,9 +110,7 @@ dated y m d n e =
       falls = f;
     })
     (λ (t : real y m d ≡ false).
-    let s = sym (cond-false (real y m d) (Some (day-number y m d)) None t) ∙ e in
-    let z : _≡_ {A = ℕ} 0 1 = cc in
-    absurd (omega arith))
+    absurd (none-some n (sym (cond-false (real y m d) (Some (day-number y m d)) None t) ∙ e)))
     (cases-bool (real y m d))
 
 -- and a day of a year has a date
@@ -127,7 +124,7 @@ date y m d n h =
     cond-true (real y m d) (Some (day-number y m d)) None t ∙ ap Some i
 
 -- a day has one date only
-pub dated-once : (n y m d z p e : ℕ) → Dated n y m d → Dated n z p e → (y ≡ z) × (m ≡ p) × (d ≡ e)
+dated-once : (n y m d z p e : ℕ) → Dated n y m d → Dated n z p e → (y ≡ z) × (m ≡ p) × (d ≡ e)
 dated-once n y m d z p e f g =
     let same = year-once n y z (f .year) (g .year) in
     let g′ = rw (sym same) at (g .falls) in

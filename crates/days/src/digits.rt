@@ -76,8 +76,6 @@ pub fn write_date(day: u32) -> Option<[u8; 8]>
     if !in_range(day) {
         return None;
     }
-    match date_of_day(day) {
-        Some((year, month, day)) => Some(date_text(year, u32::from(month), u32::from(day))),
-        None => None,
-    }
+    let (year, month, day) = date_of_day(day)?;
+    Some(date_text(year, u32::from(month), u32::from(day)))
 }

@@ -8,6 +8,7 @@ use crate::months::place_after;
 // The last day of year 9999.
 const LAST_DAY: u32 = 3_652_059;
 
+// Whether a year has a 29 February.
 pub fn is_leap(year: u32) -> bool
     ensures { λ r. ⌜ r ≡ leap-year year ⌝ }
 {
@@ -38,10 +39,8 @@ pub fn day_of_date(year: u32, month: u8, day: u8) -> Option<u32>
     if year < 1 || year > 9999 {
         return None;
     }
-    match days_past(&month_lengths(year), month, day) {
-        Some(past) => Some(new_year(year) + past),
-        None => None,
-    }
+    let past = days_past(&month_lengths(year), month, day)?;
+    Some(new_year(year) + past)
 }
 
 // The year that a day lies in.
@@ -65,8 +64,6 @@ pub fn date_of_day(day: u32) -> Option<(u32, u8, u8)>
         return None;
     }
     let year = year_of(day);
-    match place_after(&month_lengths(year), day - new_year(year)) {
-        Some((month, day)) => Some((year, month, day)),
-        None => None,
-    }
+    let (month, day) = place_after(&month_lengths(year), day - new_year(year))?;
+    Some((year, month, day))
 }

@@ -7,6 +7,6 @@ pub returns-then-day-lt1 : need.returns-then-day-lt1
 returns-then-day-lt1 c =
     date-of-none _ (λ y h. let b = year-bounds _ y h in omega (arith, c .then-day-lt1 .either))
 
-pub returns-in-Some : need.returns-in-Some
-returns-in-Some c =
-    date-of-some _ _ _ _ (record { year = c .year-of-year .ensures; falls = simp (sym (c .month-lengths .ensures), sym (c .new-year .ensures)) (c .in-Some .ensures tt) })
+pub returns : need.returns
+returns c =
+    date-of-some _ _ _ _ (record { year = c .year-of-year .ensures; falls = simp (sym (c .month-lengths .ensures), sym (c .new-year .ensures)) (c .in-Continue-month .ensures tt) })
