@@ -23,10 +23,6 @@ pub trait Shelf {
     fn count(&self) -> usize
         ensures { λ r. ⌜ r ≡ length (held (now (self .entry))) ⌝ };
 
-    // The place of the first calendar that bears the name, letter case ignored.
-    fn find(&self, name: &[u8]) -> Option<usize>
-        ensures { λ r. ⌜ Found (held (now (self .entry))) (now (name .entry)) r ⌝ };
-
     fn name(&self, place: usize) -> &str
         ensures { λ r. ⌜ now r ≡ almanac-at (held (now (self .entry))) place .name ⌝ };
 
@@ -41,6 +37,18 @@ pub trait Shelf {
 
     fn date(&self, place: usize, day: u32) -> Option<(u32, u8, u8)>
         ensures { λ r. ⌜ Dated (almanac-at (held (now (self .entry))) place) day r ⌝ };
+
+    // The place of the first calendar that bears the name, letter case ignored.
+    fn find(&self, name: &[u8]) -> Option<usize>
+        ensures { λ r. ⌜ Found (held (now (self .entry))) (now (name .entry)) r ⌝ }
+    {
+        for place in 0..self.count() {
+            if self.name(place).as_bytes().eq_ignore_ascii_case(name) {
+                return Some(place);
+            }
+        }
+        None
+    }
 }
 
 // A shelf with no calendar.
@@ -59,10 +67,6 @@ pub impl Shelf for Empty as EmptyShelf {
 
     fn count(&self) -> usize {
         0
-    }
-
-    fn find(&self, _name: &[u8]) -> Option<usize> {
-        None
     }
 
     fn name(&self, _place: usize) -> &str {
@@ -91,20 +95,6 @@ pub impl<C: Calendar, R: Shelf> Shelf for On<C, R> as OnShelf {
 
     fn count(&self) -> usize {
         (self.rest.count() + 1).min(PLACES)
-    }
-
-    fn find(&self, name: &[u8]) -> Option<usize> {
-        if self.calendar.name().as_bytes().eq_ignore_ascii_case(name) {
-            return Some(0);
-        }
-        let Some(place) = self.rest.find(name) else {
-            return None;
-        };
-        if place + 1 < PLACES {
-            Some(place + 1)
-        } else {
-            None
-        }
     }
 
     fn name(&self, place: usize) -> &str {

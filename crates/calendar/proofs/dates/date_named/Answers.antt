@@ -38,7 +38,7 @@ returns-in-Some g c =
     let p = c .in-Some .month in
     let m = month g (at·returns-in-Some g c .After-sheet) in
     let code : code-at (a .sheet y) p ≡ getD (c .sheet .result .codes) (p - 1) no-code =
-    code-here (a .sheet y) p (m .0) (m .1) ∙ sym (ap (λ (s : Sheet). getD (s .codes) (p - 1) no-code) (c .sheet .ensures)) in
+    code-here (a .sheet y) p (m .0) (m .1) ∙ ap (λ (s : Sheet). getD (s .codes) (p - 1) no-code) (sym (c .sheet .ensures)) in
     record {
       named = subst (λ (x : MonthCode). Date-named a (c .args .day) (Some (record { year = y; code = x; day = c .in-Some .date }))) code
           (date-named-some a (c .args .day) y p (c .in-Some .date) (c .in-Some .ensures tt));
