@@ -1,7 +1,7 @@
 // The answers to commands, over any shelf.
 ghost use Rattle.std.specs.Of.Vec.{vec-items};
 ghost use Rattle.std.specs.Vec.{made};
-ghost use Rattle.season.specs.Answers.{Everywhere};
+ghost use Rattle.season.specs.Answers.{Everywhere, Replied};
 use crate::commands::Command;
 use crate::commands::Complaint;
 use crate::commands::read_command;
@@ -15,6 +15,17 @@ use days::gregorian::date_of_day;
 use days::weekday::Weekday;
 use std::alloc::AllocError;
 use std::alloc::Global;
+
+// What a command is answered with.
+#[derive(Drop)]
+pub enum Reply {
+    // this day, in every calendar
+    Day(u32),
+    // the year of the calendar at this place, with its sheet
+    Year(usize, u32, Sheet),
+    // that there is no such date or year
+    Nothing,
+}
 
 // A month code, with two digits and L for a leap month.
 fn code_text(heap: Global, code: MonthCode) -> Result<String, AllocError> {
@@ -85,33 +96,40 @@ fn year_line(heap: Global, name: &str, year: u32, sheet: &Sheet) -> Result<Strin
     Ok(line)
 }
 
-// The answer to a command whose calendar is named.
-fn answer_at<S: Shelf>(
-    heap: Global,
-    shelf: &S,
-    command: Command<'_>,
-) -> Result<Result<String, Complaint>, AllocError> {
+// What a command asks for, found on the shelf.
+fn look_up<S: Shelf>(shelf: &S, command: Command<'_>) -> Result<Reply, Complaint>
+    ensures { λ r. ⌜ Replied (S·Shelf .held (now (shelf .entry))) (command .entry) r ⌝ }
+{
     match command {
-        Command::Date(day) => Ok(Ok(day_line(heap, shelf, day)?)),
+        Command::Date(day) => Ok(Reply::Day(day)),
         Command::Day(name, date) => {
             let Some(place) = shelf.find(name.as_bytes()) else {
-                return Ok(Err(Complaint::NoCalendar));
+                return Err(Complaint::NoCalendar);
             };
             match day_named(shelf, place, date) {
-                Some(day) => Ok(Ok(day_line(heap, shelf, day)?)),
-                None => Ok(Ok(format!(heap, "none")?)),
+                Some(day) => Ok(Reply::Day(day)),
+                None => Ok(Reply::Nothing),
             }
         }
         Command::Year(name, year) => {
             let Some(place) = shelf.find(name.as_bytes()) else {
-                return Ok(Err(Complaint::NoCalendar));
+                return Err(Complaint::NoCalendar);
             };
             let sheet = shelf.sheet(place, year);
             if sheet.months == 0 {
-                return Ok(Ok(format!(heap, "none")?));
+                return Ok(Reply::Nothing);
             }
-            Ok(Ok(year_line(heap, shelf.name(place), year, &sheet)?))
+            Ok(Reply::Year(place, year, sheet))
         }
+    }
+}
+
+// A reply as a line.
+fn reply_line<S: Shelf>(heap: Global, shelf: &S, reply: Reply) -> Result<String, AllocError> {
+    match reply {
+        Reply::Day(day) => day_line(heap, shelf, day),
+        Reply::Year(place, year, sheet) => year_line(heap, shelf.name(place), year, &sheet),
+        Reply::Nothing => format!(heap, "none"),
     }
 }
 
@@ -121,8 +139,12 @@ pub fn answer<S: Shelf>(
     shelf: &S,
     line: &str,
 ) -> Result<Result<String, Complaint>, AllocError> {
-    match read_command(heap, line)? {
-        Ok(command) => answer_at(heap, shelf, command),
+    let command = match read_command(heap, line)? {
+        Ok(command) => command,
+        Err(complaint) => return Ok(Err(complaint)),
+    };
+    match look_up(shelf, command) {
+        Ok(found) => Ok(Ok(reply_line(heap, shelf, found)?)),
         Err(complaint) => Ok(Err(complaint)),
     }
 }
