@@ -1,0 +1,14 @@
+// Rules over any lawful calendar.
+mod checked;
+mod parts;
+mod period;
+
+pub use checked::Rule;
+pub use parts::ByDay;
+pub use parts::Frequency;
+pub use parts::MonthDays;
+pub use parts::Months;
+pub use parts::Position;
+pub use parts::Skip;
+pub use parts::Weekdays;
+pub use period::Period;
