@@ -30,13 +30,6 @@ module _ {X : Type 0} (before : X → X → Bool) where
       (λ e. alike (ap (λ m. getD xs m d) e) refl (follows p d (omega arith) (omega arith)))
       (λ v. h .0 p k d a b f u v) (cases-eq k j)) (cases-eq p j)
 
-  -- the entry at n comes after a heap of n
-  pub last-begins : (xs : List X) (n m : ℕ) → m ≡ n + 1 → Heaped before xs n → Heaped-but before xs n m × Leads before xs n n m
-  last-begins xs n m e h = (
-    (λ p k d a b f u v. h p k d a b (omega arith), λ p k d a b f g i. absurd (omega arith)),
-    λ k d a b f. absurd (omega arith),
-  )
-
   -- ys is a heap xs of m but for its first entry, and cut short
   pub first-begins : (xs ys : List X) (n m : ℕ) → n ≤ m → ((k : ℕ) (d : X) → 0 < k → k < n → getD ys k d ≡ getD xs k d) → Heaped before xs m → Heaped-but before ys 0 n
   first-begins xs ys n m le e h = (
@@ -47,12 +40,6 @@ module _ {X : Type 0} (before : X → X → Bool) where
   -- lists that agree on their first n places
   pub heaped-same : (xs ys : List X) (n : ℕ) → ((k : ℕ) (d : X) → k < n → getD ys k d ≡ getD xs k d) → Heaped before xs n → Heaped before ys n
   heaped-same xs ys n e h p k d a b f = alike (e k d f) (e p d (omega arith)) (h p k d a b f)
-
-  pub no-parent : (xs : List X) (j : ℕ) → j ≡ 0 → Follows before xs j
-  no-parent xs j e p d a b = absurd (omega arith)
-
-  pub follows-by : (xs : List X) (j : ℕ) → ((d : X) → before (getD xs j d) (getD xs ((j - 1) / 2) d) ≡ false) → Follows before xs j
-  follows-by xs j t p d a b = let e : p ≡ (j - 1) / 2 = omega arith in alike refl (ap (λ m. getD xs m d) e) (t d)
 
   module _ (o : Strict before) where
     -- no entry is before itself

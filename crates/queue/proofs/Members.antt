@@ -29,9 +29,6 @@ module _ {X : Type 0} where
   has-cases x y xs (zero, l, e) = inl (e x)
   has-cases x y xs (suc k, l, e) = inr (k, omega arith, e)
 
-  pub has-none : (y : X) → Has [] y → ⊥
-  has-none y h = omega (arith, h .1)
-
   -- the entry at a place in use
   pub has-in-use : (xs : List X) (n k : ℕ) (d : X) → k < n → n ≤ length xs → Has (take n xs) (getD xs k d)
   has-in-use xs n k d l h = subst (Has (take n xs)) (getD-take n xs k d l) (has-getD (take n xs) k d (omega (arith, length-take-le n xs h)))

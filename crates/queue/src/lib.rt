@@ -111,9 +111,10 @@ pub fn pop<T: Entry>(slots: &mut [T], used: usize) -> Option<T>
     if used == 0 {
         return None;
     }
-    let top = slots[0];
-    slots.swap(0, used - 1);
-    sink(&mut slots[0..used - 1]);
+    let front = &mut slots[0..used];
+    let top = front[0];
+    front.swap(0, used - 1);
+    sink(&mut front[0..used - 1]);
     Some(top)
 }
 

@@ -1,5 +1,6 @@
 use mathlib.Core.Path.{_≡_, _∙_, subst}
-use mathlib.Core.Bool.{true}
+use mathlib.Core.Bool.{true, false}
+use mathlib.Core.List.{_∷_}
 use mathlib.Core.Logic.{⊎-elim}
 use Prim.Native.Nat.{_-_}
 use native.Mathlib.Omega.{arith}
@@ -16,11 +17,11 @@ returns-then-not-earlier g c =
     let least = c .in-Some .ensures tt .popped .least in
     record {
       first = record {
-        among = l .inv .4 _ (least .among);
+        among = l .inv .4 (c .in-Some .entry) (least .among);
         late = cc;
         first = λ y h late. least .first y (l .inv .5 y h late);
       };
-      beyond = past-later _ _ (l .left) (c .args .used) (omega arith) (c .pop .ensures .beyond) ∙ l .inv .3;
+      beyond = past-later (c .pop .last .slots) (l .slots) (l .left) (c .args .used) (omega arith) (c .pop .ensures .beyond) ∙ l .inv .3;
     }
 
 pub loop-entry-again : need.loop-entry-again
@@ -28,13 +29,15 @@ loop-entry-again g c =
     let l = c .loop-entry in
     let x = c .in-Some .entry in
     let before = g .T·Entry .before in
+    let had = take (l .left) (l .slots) in
     let rest = take (l .left - 1) (c .pop .last .slots) in
-    let others = shuffled-sym _ _ (c .in-Some .ensures tt .popped .others) in
+    let others = shuffled-sym had (x ∷ rest) (c .in-Some .ensures tt .popped .others) in
     let early : before x (c .args .from) ≡ true = cc in (
       omega arith,
       omega arith,
       c .pop .ensures .heaped,
-      past-later _ _ (l .left) (c .args .used) (omega arith) (c .pop .ensures .beyond) ∙ l .inv .3,
-      λ y h. l .inv .4 y (with-keeps x rest _ others y h),
-      λ y h late. ⊎-elim (λ e. absurd (both-ways _ late (subst (λ z. before z (c .args .from) ≡ true) e early))) (λ m. m) (with-only x rest _ others y (l .inv .5 y h late)),
+      past-later (c .pop .last .slots) (l .slots) (l .left) (c .args .used) (omega arith) (c .pop .ensures .beyond) ∙ l .inv .3,
+      λ y h. l .inv .4 y (with-keeps x rest had others y h),
+      λ y h late. ⊎-elim (λ e. absurd (both-ways (before y (c .args .from)) late (subst (λ z. before z (c .args .from) ≡ true) e early))) (λ m. m)
+          (with-only x rest had others y (l .inv .5 y h late)),
     )

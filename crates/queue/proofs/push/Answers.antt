@@ -2,9 +2,11 @@ use mathlib.Core.Path.{_≡_, _∙_}
 use Prim.Native.Nat.{_+_, _-_}
 use native.Mathlib.Omega.{arith}
 use lib.ListN.{length, set, take}
-use lib.Seq.{drop-set-lt, getD-take, getD-set-other}
+use lib.Seq.{drop-set-lt, getD-set-other}
+use Rattle.std.proofs.shelf.Lists.{getD-take, take-at}
+use Rattle.std.proofs.shelf.Parts.{drop-append-drop}
 use Rattle.queue.proofs.Heaps.{heaped-same}
-use Rattle.queue.proofs.Fronts.{front-taken, past-front, pushes, front-at}
+use Rattle.queue.proofs.Fronts.{pushes, front-at}
 use Rattle.queue.proofs.push.Needs as need
 
 pub rise-requires : need.rise-requires
@@ -23,12 +25,11 @@ returns g c =
     let n = c .args .used in
     let x = c .args .entry in
     let ys = c .rise .last .front in
-    let w = set xs n x in
     let m = n + 1 - 0 in
     let long : length ys ≡ n + 1 = omega arith in
-    let is = front-taken w ys m (n + 1) (omega arith) long in
+    let is = take-at ys _ (n + 1) long in
     record {
       entries = rw is (pushes xs ys n m x (omega arith) (omega arith) (c .rise .ensures .entries));
       heaped = heaped-same (g .T·Entry .before) ys _ (n + 1) (front-at _ ys (n + 1) is) (rw long at (c .rise .ensures .heaped));
-      beyond = past-front w ys m (n + 1) (n + 1) (omega arith) (omega arith) long ∙ drop-set-lt (n + 1) xs n x (omega arith);
+      beyond = drop-append-drop m (set xs n x) ys (n + 1) (omega arith) (omega arith) ∙ drop-set-lt (n + 1) xs n x (omega arith);
     }
