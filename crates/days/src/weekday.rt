@@ -30,6 +30,21 @@ impl Weekday {
         }
     }
 
+    // The remainder by 7 of the days that fall on it.
+    pub fn number(self) -> u32
+        ensures { λ r. ⌜ r ≡ remainder self ⌝ }
+    {
+        match self {
+            Weekday::Sunday => 0,
+            Weekday::Monday => 1,
+            Weekday::Tuesday => 2,
+            Weekday::Wednesday => 3,
+            Weekday::Thursday => 4,
+            Weekday::Friday => 5,
+            Weekday::Saturday => 6,
+        }
+    }
+
     // The two letters that stand for it in files.
     pub fn letters(self) -> &'static str
         ensures { λ r. ⌜ now r ≡ letters self ⌝ }

@@ -1,5 +1,6 @@
 // Rules over any lawful calendar.
 mod checked;
+mod limits;
 mod parts;
 mod period;
 
