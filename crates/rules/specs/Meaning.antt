@@ -20,6 +20,7 @@ use Rattle.rules.specs.declared.parts.Position.the-variants.{FromStart, FromEn
 use Rattle.rules.specs.declared.parts.Skip.{Skip}
 use Rattle.rules.specs.declared.parts.Skip.the-variants.{Omit, Backward, Forward}
 use Rattle.rules.specs.declared.period.Period.{Period}
+use Rattle.rules.specs.declared.period.Stretch.{Stretch}
 use Rattle.rules.specs.declared.period.Period.the-variants.{Year, Month, Week, Day}
 use Rattle.rules.specs.Parts.{some-of, no-items, codes-in, values-in, weekdays-in}
 
@@ -34,10 +35,6 @@ first-from f k zero = None
 first-from f k (suc n) = cond (f k) (Some k) (first-from f (suc k) n)
 
 -- ── stretches of days ──
-
-pub record Stretch : Type 0 where
-  pub from : ℕ
-  pub size : ℕ
 
 abbrev pub inside : Stretch → ℕ → Bool
 inside m n = leb (m .from) n && ltb n (m .from + m .size)
@@ -185,15 +182,15 @@ year-gives r t own s n =
     cond (not (no-items (by-month-day r)))
     (weekday-passes r n && some-month s (λ p. (no-items (by-month r) || chosen r s p) && month-days-give r (month-at s p) n))
     (cond (not (no-items (by-day r)))
-      (cond (no-items (by-month r)) (weekdays-give r (whole-year s) n) (some-month s (λ p. chosen r s p && weekdays-give r (month-at s p) n)))
-      (some-month s (λ p. cond (no-items (by-month r)) (code-gives (r .skip) s own p) (chosen r s p) && own-day-gives r t (month-at s p) n)))
+    (cond (no-items (by-month r)) (weekdays-give r (whole-year s) n) (some-month s (λ p. chosen r s p && weekdays-give r (month-at s p) n)))
+    (some-month s (λ p. cond (no-items (by-month r)) (code-gives (r .skip) s own p) (chosen r s p) && own-day-gives r t (month-at s p) n)))
 
 -- the month at place p gives n
 abbrev pub month-gives : Rule → Date → Sheet → ℕ → ℕ → Bool
 month-gives r t s p n =
     (leb p (s .months) && code-passes r (code-at s p))
     && cond (not (no-items (by-month-day r))) (weekday-passes r n && month-days-give r (month-at s p) n)
-        (cond (not (no-items (by-day r))) (weekdays-give r (month-at s p) n) (own-day-gives r t (month-at s p) n))
+    (cond (not (no-items (by-day r))) (weekdays-give r (month-at s p) n) (own-day-gives r t (month-at s p) n))
 
 -- the week that begins on the day b gives n; without BYDAY it is DTSTART's weekday
 abbrev pub week-gives : Almanac → Rule → ℕ → ℕ → ℕ → Bool

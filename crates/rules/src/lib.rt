@@ -1,8 +1,11 @@
 // Rules over any lawful calendar.
 mod checked;
+mod codes;
+mod filling;
 mod limits;
 mod parts;
 mod period;
+mod values;
 
 pub use checked::Rule;
 pub use parts::ByDay;
@@ -13,3 +16,4 @@ pub use parts::Position;
 pub use parts::Skip;
 pub use parts::Weekdays;
 pub use period::Period;
+pub use period::Stretch;

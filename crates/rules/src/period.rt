@@ -8,3 +8,10 @@ pub enum Period {
     Week(u32),
     Day(u32),
 }
+
+// Days in a row.
+#[derive(Clone, Copy)]
+pub struct Stretch {
+    pub from: u32,
+    pub size: u32,
+}
