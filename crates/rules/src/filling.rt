@@ -5,13 +5,12 @@ ghost use Prim.Native.Nat.{ℕ, _+_, _<_, _≤_};
 ghost use lib.Dec.{ltb, eqb};
 ghost use lib.ListN.{length};
 ghost use Rattle.queue.specs.Heap.{Heaped};
-ghost use Rattle.rules.specs.Parts.{some-of, position-ok};
-ghost use Rattle.rules.specs.Meaning.{weekday-passes, value-gives, month-days-give, weekday-gives, weekdays-give, in-position};
+ghost use Rattle.rules.specs.Parts.{some-of, each-of, position-ok};
+ghost use Rattle.rules.specs.Meaning.{weekday-passes, value-gives, month-days-give, weekdays-give};
 ghost use Rattle.rules.specs.Found.{One-day, Small, Adds};
 use crate::Rule;
-use crate::limits::on_weekday;
 use crate::limits::weekday_passes;
-use crate::parts::ByDay;
+use crate::limits::weekdays_give;
 use crate::parts::Position;
 use crate::period::Stretch;
 use crate::values::value_day;
@@ -43,4 +42,55 @@ fn add_value(slots: &mut [u32], used: usize, rule: &Rule, month: Stretch, value:
         Some(day) => add_if(slots, used, day, weekday_passes(rule, day)),
         None => used,
     }
+}
+
+// Adds the days that some values give in a month, unless BYDAY keeps them out.
+fn add_listed(
+    slots: &mut [u32],
+    used: usize,
+    rule: &Rule,
+    month: Stretch,
+    list: &[Position],
+) -> usize
+    requires room { ⌜ used + length (now list) ≤ length (now slots) ⌝ }
+    requires heaped { ⌜ Heaped ltb (now slots) used ⌝ }
+    requires small { ⌜ Small month ⌝ }
+    requires values { ⌜ each-of (position-ok 31) (now list) ≡ true ⌝ }
+    ensures { λ r. ⌜ Adds (now (slots .entry)) (now (slots .exit)) used r (length (now (list .entry))) (λ n. weekday-passes (now (rule .entry)) n && some-of (value-gives (now (rule .entry) .skip) month n) (now (list .entry))) ⌝ }
+{
+    let mut held = used;
+    for value in list {
+        held = add_value(slots, held, rule, month, *value);
+    }
+    held
+}
+
+// Adds the days that BYMONTHDAY gives in a month, limited by BYDAY.
+pub fn add_month_days(slots: &mut [u32], used: usize, rule: &Rule, month: Stretch) -> usize
+    requires room { ⌜ used + 62 ≤ length (now slots) ⌝ }
+    requires heaped { ⌜ Heaped ltb (now slots) used ⌝ }
+    requires small { ⌜ Small month ⌝ }
+    ensures { λ r. ⌜ Adds (now (slots .entry)) (now (slots .exit)) used r 62 (λ n. weekday-passes (now (rule .entry)) n && month-days-give (now (rule .entry)) month n) ⌝ }
+{
+    add_listed(
+        slots,
+        used,
+        rule,
+        month,
+        &rule.month_days.at[0..rule.month_days.len],
+    )
+}
+
+// Adds the days of a stretch that BYDAY gives in it.
+pub fn add_weekdays(slots: &mut [u32], used: usize, rule: &Rule, stretch: Stretch) -> usize
+    requires room { ⌜ used + stretch .size ≤ length (now slots) ⌝ }
+    requires heaped { ⌜ Heaped ltb (now slots) used ⌝ }
+    requires small { ⌜ Small stretch ⌝ }
+    ensures { λ r. ⌜ Adds (now (slots .entry)) (now (slots .exit)) used r (stretch .size) (weekdays-give (now (rule .entry)) stretch) ⌝ }
+{
+    let mut held = used;
+    for day in stretch.from..stretch.from + stretch.size {
+        held = add_if(slots, held, day, weekdays_give(rule, stretch, day));
+    }
+    held
 }

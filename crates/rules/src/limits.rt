@@ -1,11 +1,13 @@
 // Tests that a rule makes of a day or of a month.
 ghost use mathlib.Core.Path.{_≡_};
-ghost use Prim.Native.Nat.{_≤_};
+ghost use mathlib.Core.Bool.{true};
 ghost use Rattle.rules.specs.Parts.{some-of};
-ghost use Rattle.rules.specs.Meaning.{same-code, on-weekday, weekday-passes, code-passes, names, value-passes};
+ghost use Rattle.rules.specs.Found.{Small};
+ghost use Rattle.rules.specs.Meaning.{same-code, on-weekday, weekday-passes, code-passes, names, value-passes, inside, in-position, weekday-gives, weekdays-give};
 use crate::Rule;
 use crate::parts::ByDay;
 use crate::parts::Position;
+use crate::period::Stretch;
 use calendar::MonthCode;
 
 // Whether two codes are one.
@@ -16,7 +18,7 @@ pub fn same_code(one: MonthCode, other: MonthCode) -> bool
 }
 
 // Whether a day falls on the weekday.
-pub fn on_weekday(day: u32, by_day: ByDay) -> bool
+fn on_weekday(day: u32, by_day: ByDay) -> bool
     ensures { λ r. ⌜ r ≡ on-weekday day «by_day» ⌝ }
 {
     day % 7 == by_day.weekday.number()
@@ -85,4 +87,45 @@ pub fn value_passes(rule: &Rule, day: u8, length: u8) -> bool
 {
     rule.month_days.len == 0
         || some_value_names(&rule.month_days.at[0..rule.month_days.len], day, length)
+}
+
+// Whether a day is the so-manieth of its weekday in the stretch.
+fn in_position(stretch: Stretch, day: u32, position: Option<Position>) -> bool
+    requires { ⌜ Small stretch ⌝ ∗ ⌜ inside stretch day ≡ true ⌝ }
+    ensures { λ r. ⌜ r ≡ in-position stretch day position ⌝ }
+{
+    match position {
+        None => true,
+        Some(Position::FromStart(j)) => (day - stretch.from) / 7 + 1 == u32::from(j),
+        Some(Position::FromEnd(j)) => (stretch.from + stretch.size - 1 - day) / 7 + 1
+            == u32::from(j),
+    }
+}
+
+// Whether a weekday gives a day of the stretch.
+fn weekday_gives(stretch: Stretch, day: u32, by_day: ByDay) -> bool
+    requires { ⌜ Small stretch ⌝ ∗ ⌜ inside stretch day ≡ true ⌝ }
+    ensures { λ r. ⌜ r ≡ weekday-gives stretch day «by_day» ⌝ }
+{
+    on_weekday(day, by_day) && in_position(stretch, day, by_day.position)
+}
+
+fn some_weekday_gives(list: &[ByDay], stretch: Stretch, day: u32) -> bool
+    requires { ⌜ Small stretch ⌝ ∗ ⌜ inside stretch day ≡ true ⌝ }
+    ensures { λ r. ⌜ r ≡ some-of (weekday-gives stretch day) (now (list .entry)) ⌝ }
+{
+    for by_day in list {
+        if weekday_gives(stretch, day, *by_day) {
+            return true;
+        }
+    }
+    false
+}
+
+// Whether BYDAY gives a day of the stretch.
+pub fn weekdays_give(rule: &Rule, stretch: Stretch, day: u32) -> bool
+    requires { ⌜ Small stretch ⌝ ∗ ⌜ inside stretch day ≡ true ⌝ }
+    ensures { λ r. ⌜ r ≡ weekdays-give (now (rule .entry)) stretch day ⌝ }
+{
+    some_weekday_gives(&rule.weekdays.at[0..rule.weekdays.len], stretch, day)
 }
