@@ -185,15 +185,15 @@ year-gives r t own s n =
     cond (not (no-items (by-month-day r)))
     (weekday-passes r n && some-month s (λ p. (no-items (by-month r) || chosen r s p) && month-days-give r (month-at s p) n))
     (cond (not (no-items (by-day r)))
-      (cond (no-items (by-month r)) (weekdays-give r (whole-year s) n) (some-month s (λ p. chosen r s p && weekdays-give r (month-at s p) n)))
-      (some-month s (λ p. cond (no-items (by-month r)) (code-gives (r .skip) s own p) (chosen r s p) && own-day-gives r t (month-at s p) n)))
+    (cond (no-items (by-month r)) (weekdays-give r (whole-year s) n) (some-month s (λ p. chosen r s p && weekdays-give r (month-at s p) n)))
+    (some-month s (λ p. cond (no-items (by-month r)) (code-gives (r .skip) s own p) (chosen r s p) && own-day-gives r t (month-at s p) n)))
 
 -- the month at place p gives n
 abbrev pub month-gives : Rule → Date → Sheet → ℕ → ℕ → Bool
 month-gives r t s p n =
     (leb p (s .months) && code-passes r (code-at s p))
     && cond (not (no-items (by-month-day r))) (weekday-passes r n && month-days-give r (month-at s p) n)
-        (cond (not (no-items (by-day r))) (weekdays-give r (month-at s p) n) (own-day-gives r t (month-at s p) n))
+    (cond (not (no-items (by-day r))) (weekdays-give r (month-at s p) n) (own-day-gives r t (month-at s p) n))
 
 -- the week that begins on the day b gives n; without BYDAY it is DTSTART's weekday
 abbrev pub week-gives : Almanac → Rule → ℕ → ℕ → ℕ → Bool
