@@ -1,2 +1,4 @@
 pub mod Searching
 pub mod Dated
+pub mod Fitting
+pub mod Bounds

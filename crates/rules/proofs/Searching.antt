@@ -2,7 +2,7 @@
 use mathlib.Core.Path.{_≡_, refl, sym, _∙_, ap, subst}
 use mathlib.Core.Bool.{Bool, true, false, cond, _&&_, _||_}
 use mathlib.Core.List.{List, [], _∷_}
-use mathlib.Core.Logic.{⊎-elim}
+use mathlib.Core.Logic.{⊎-elim, _⊎_, inl, inr}
 use Prim.Native.Nat.{ℕ, zero, suc, _+_, _<_, _≤_}
 use native.Mathlib.Nat.{not-suc-le-zero, le-of-suc-le-suc}
 use native.Mathlib.Omega.{arith}
@@ -13,6 +13,11 @@ use Rattle.std.specs.shelf.Lists.{All}
 use Rattle.std.proofs.shelf.Tests.{cases-lt, cases-bool, and-parts, or-left, or-right, or-from, or-cases, true≢false}
 use Rattle.rules.specs.Parts.{some-of, each-of}
 use Rattle.rules.specs.Meaning.{some-below, first-from}
+
+-- which way a choice passed
+pub cond-ways : (b x y : Bool) → cond b x y ≡ true → ((b ≡ true) × (x ≡ true)) ⊎ ((b ≡ false) × (y ≡ true))
+cond-ways true x y t = inl (refl, t)
+cond-ways false x y t = inr (refl, t)
 
 -- ── numbers below a bound ──
 
