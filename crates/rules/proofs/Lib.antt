@@ -2,3 +2,5 @@ pub mod Searching
 pub mod Dated
 pub mod Fitting
 pub mod Bounds
+pub mod Monthly
+pub mod Orderly
