@@ -4,3 +4,4 @@ pub mod Fitting
 pub mod Bounds
 pub mod Monthly
 pub mod Orderly
+pub mod Given

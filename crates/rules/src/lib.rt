@@ -2,6 +2,7 @@
 mod checked;
 mod parts;
 mod period;
+mod theorem;
 
 pub use checked::Rule;
 pub use parts::ByDay;
@@ -12,3 +13,4 @@ pub use parts::Position;
 pub use parts::Skip;
 pub use parts::Weekdays;
 pub use period::Period;
+pub use theorem::rules_say;
