@@ -1,15 +1,13 @@
 -- Where the days of a period lie, over a lawful almanac.
-use mathlib.Core.Path.{_≡_, refl, sym, _∙_, ap, subst}
-use mathlib.Core.Bool.{Bool, true, false, cond, not, _&&_, _||_}
-use mathlib.Core.List.{List}
+use mathlib.Core.Path.{_≡_, refl}
+use mathlib.Core.Bool.{Bool, true, cond, not, _&&_, _||_}
 use mathlib.Core.Logic.{⊎-elim}
-use Prim.Native.Nat.{ℕ, _+_, _-_, _%_, _<_, _≤_}
+use Prim.Native.Nat.{ℕ, _+_, _-_, _<_, _≤_}
 use native.Mathlib.Omega.{arith}
 use lib.Dec.{leb, ltb, eqb}
-use lib.ListN.{length, take}
+use lib.ListN.{length}
 use Rattle.std.proofs.shelf.Tests.{cases-lt, and-parts, leb-true, ltb-true, eqb-true, false≢true}
 use Rattle.std.proofs.shelf.Lists.{take-all}
-use Rattle.days.specs.Months.{before, length-at, total}
 use Rattle.days.proofs.Totals.{before-later}
 use Rattle.calendar.specs.declared.sheet.MonthCode.{MonthCode}
 use Rattle.calendar.specs.declared.sheet.Sheet.{Sheet}

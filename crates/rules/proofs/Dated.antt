@@ -1,17 +1,15 @@
 -- Over a lawful almanac the search for a day's date finds its date, and none only if it has none.
-use mathlib.Core.Path.{_≡_, refl, sym, _∙_, ap, subst}
-use mathlib.Core.Bool.{Bool, true, false, _&&_}
-use mathlib.Core.Logic.{⊎-elim}
+use mathlib.Core.Path.{_≡_, refl, _∙_, ap, subst}
+use mathlib.Core.Bool.{true, false}
 use Prim.Native.Nat.{ℕ, _+_, _-_, _<_, _≤_}
 use native.Mathlib.Omega.{arith}
 use lib.Dec.{leb, ltb}
 use lib.ListN.{length, length-take}
 use Rattle.std.specs.declared.option.Option.{Option}
 use Rattle.std.specs.declared.option.Option.the-variants.{Some, None}
-use Rattle.std.proofs.shelf.Tests.{cases-lt, and-parts, and-from, and-right, leb-true, ltb-true, le-leb, lt-ltb, le-ltb}
-use Rattle.days.specs.Months.{before, length-at}
+use Rattle.std.proofs.shelf.Tests.{and-parts, and-from, and-right, leb-true, ltb-true, le-leb, lt-ltb, le-ltb}
 use Rattle.days.proofs.Totals.{before-later}
-use Rattle.calendar.specs.Sheets.{Almanac, Answered, Stands, Within, Dated, lengths-of, days-of}
+use Rattle.calendar.specs.Sheets.{Almanac, Stands, Within, Dated, lengths-of}
 use Rattle.calendar.specs.Laws.{Lawful}
 use Rattle.calendar.proofs.Years.{stands-within, after-end, months-most}
 use Rattle.rules.specs.Meaning.{Stretch, inside, whole-year, month-at, year-of, place-of, Date, date-in, date-of-year, date-of}

@@ -1,14 +1,12 @@
 -- What a rule's parts are, by the test that every rule has passed.
-use mathlib.Core.Path.{_≡_, refl}
-use mathlib.Core.Bool.{Bool, true, false, _&&_}
-use mathlib.Core.List.{List}
+use mathlib.Core.Path.{_≡_}
+use mathlib.Core.Bool.{true, _&&_}
 use Prim.Native.Nat.{ℕ, _≤_}
 use lib.Dec.{leb}
 use Rattle.std.specs.shelf.Lists.{All}
 use Rattle.std.proofs.shelf.Tests.{and-parts, leb-true}
 use Rattle.calendar.specs.declared.sheet.MonthCode.{MonthCode}
 use Rattle.rules.specs.declared.checked.Rule.{Rule}
-use Rattle.rules.specs.declared.parts.ByDay.{ByDay}
 use Rattle.rules.specs.declared.parts.Position.{Position}
 use Rattle.rules.specs.declared.parts.Position.the-variants.{FromStart, FromEnd}
 use Rattle.rules.specs.Parts.{lists-fit, numbers-fit, parts-fit, each-of, code-ok, position-ok, number-ok}

@@ -5,3 +5,4 @@ pub mod Bounds
 pub mod Monthly
 pub mod Orderly
 pub mod Given
+pub mod Leasts

@@ -1,6 +1,5 @@
 -- Months that run on through the years: where each stands, and that a later one begins where an earlier one ends, or later.
-use mathlib.Core.Path.{_≡_, refl, sym, _∙_, ap, subst}
-use mathlib.Core.Bool.{Bool, true, false, cond}
+use mathlib.Core.Path.{_≡_, sym, _∙_, ap, subst}
 use mathlib.Core.Logic.{⊎-elim}
 use Prim.Native.Nat.{ℕ, zero, suc, _+_, _-_, _<_, _≤_}
 use native.Mathlib.Omega.{arith}
@@ -8,7 +7,7 @@ use lib.Dec.{ltb}
 use lib.ListN.{length, take}
 use Rattle.std.proofs.shelf.Lists.{take-all}
 use Rattle.std.proofs.shelf.Tests.{cases-lt, cond-both, ltb-true, ltb-false}
-use Rattle.days.specs.Months.{before, length-at, total}
+use Rattle.days.specs.Months.{before, total}
 use Rattle.days.proofs.Totals.{before-next}
 use Rattle.calendar.specs.Sheets.{Almanac, Answered, lengths-of, days-of}
 use Rattle.calendar.specs.Laws.{Lawful}

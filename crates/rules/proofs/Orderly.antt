@@ -1,18 +1,17 @@
 -- The periods of any rule come one after another: no day of a later one is before a day of an earlier one, and the
 -- periods move on by a day at least.
-use mathlib.Core.Path.{_≡_, refl, sym, _∙_, ap, subst}
-use mathlib.Core.Bool.{Bool, true, false, _&&_}
+use mathlib.Core.Path.{_≡_}
+use mathlib.Core.Bool.{Bool, true}
 use mathlib.Core.Logic.{⊎-elim}
-use Prim.Native.Nat.{ℕ, zero, suc, _+_, _-_, _*_, _%_, _<_, _≤_}
+use Prim.Native.Nat.{ℕ, _+_, _*_, _<_, _≤_}
 use native.Mathlib.Nat.{mul-le-mul-right, suc-mul, le-mul-of-pos-right}
 use native.Mathlib.Omega.{arith}
 use lib.Dec.{leb, lit<}
 use Rattle.std.proofs.shelf.Tests.{cases-lt, and-parts, leb-true}
-use Rattle.days.specs.Months.{before, length-at}
 use Rattle.days.specs.Numbers.{in-range, remainder}
 use Rattle.days.specs.declared.weekday.Weekday.{Weekday}
 use Rattle.days.specs.declared.weekday.Weekday.the-variants.{Sunday, Monday, Tuesday, Wednesday, Thursday, Friday, Saturday}
-use Rattle.calendar.specs.Sheets.{Almanac, Answered, Stands, lengths-of, days-of, code-at}
+use Rattle.calendar.specs.Sheets.{Almanac, Answered, Stands, days-of, code-at}
 use Rattle.calendar.specs.Laws.{Lawful}
 use Rattle.calendar.proofs.Years.{stands-within, apart-by, after-end}
 use Rattle.rules.specs.declared.checked.Rule.{Rule}
@@ -21,8 +20,8 @@ use Rattle.rules.specs.declared.parts.Frequency.the-variants.{Yearly, Monthly,
 use Rattle.rules.specs.Meaning.{Date, period-gives, period-of, period, counted-period, week-of, month-after}
 use Rattle.rules.proofs.Dated.{lengths-count}
 use Rattle.rules.proofs.Fitting.{interval-some}
-use Rattle.rules.proofs.Bounds.{Near, Of-year, Of-month, year-bounds, month-bounds, week-bounds, day-bounds}
-use Rattle.rules.proofs.Monthly.{begins, ends, month-stands, later-month}
+use Rattle.rules.proofs.Bounds.{Of-year, Of-month, year-bounds, month-bounds, week-bounds, day-bounds}
+use Rattle.rules.proofs.Monthly.{ends, month-stands, later-month}
 
 -- f k n says that the k-th period gives the day n. From `start` on a day of the k-th is k days after `start` or later,
 -- and a day of a later period is not before a day of an earlier one.

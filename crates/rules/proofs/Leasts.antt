@@ -1,0 +1,59 @@
+-- The first day that a search through the periods finds is the rule's least from a day on.
+use mathlib.Core.Path.{_≡_, subst}
+use mathlib.Core.Bool.{true}
+use mathlib.Core.Logic.{⊎-elim}
+use Prim.Native.Nat.{ℕ, _+_, _<_, _≤_}
+use native.Mathlib.Omega.{arith}
+use Rattle.std.specs.declared.option.Option.the-variants.{Some}
+use Rattle.std.proofs.shelf.Tests.{cases-lt}
+use Rattle.calendar.specs.Sheets.{Almanac}
+use Rattle.rules.specs.declared.checked.Rule.{Rule}
+use Rattle.rules.specs.Meaning.{Date, date-of, gives}
+use Rattle.rules.proofs.Orderly.{Orderly}
+use Rattle.rules.proofs.Given.{counted-gives, day-of, given-by}
+
+-- the i-th period that counts gives no day of the range from `low` on
+abbrev pub Gives-none : Almanac → Rule → ℕ → Date → ℕ → ℕ → Type 0
+Gives-none a r start t low i = (n : ℕ) → counted-gives a r start t i n ≡ true → low ≤ n → n ≤ 803168 → ⊥
+
+-- no period before the i-th does
+abbrev pub None-before : Almanac → Rule → ℕ → Date → ℕ → ℕ → Type 0
+None-before a r start t low i = (j : ℕ) → j < i → Gives-none a r start t low j
+
+-- no period from the i-th on does
+abbrev pub None-from : Almanac → Rule → ℕ → Date → ℕ → ℕ → Type 0
+None-from a r start t low i = (j : ℕ) → i ≤ j → Gives-none a r start t low j
+
+module _ (a : Almanac) (r : Rule) (start : ℕ) (t : Date) (low : ℕ) where
+  -- the search begins, and goes on
+  pub none-yet : None-before a r start t low 0
+  none-yet j lt n e lo hi = omega arith
+
+  pub none-more : (i : ℕ) → None-before a r start t low i → Gives-none a r start t low i → None-before a r start t low (i + 1)
+  none-more i before here j lt =
+      ⊎-elim (λ (c : j < i). before j c) (λ (c : i ≤ j). let e : i ≡ j = omega arith in subst (Gives-none a r start t low) e here) (cases-lt j i)
+
+  -- no period gives a day: the rule has none
+  pub none-left : date-of a start ≡ Some t → (i : ℕ) → None-before a r start t low i → None-from a r start t low i → (n : ℕ) → low ≤ n → gives a r start n ≡ true → ⊥
+  none-left dated i before after n lo e =
+      let p = day-of a r start t dated n e in
+      ⊎-elim (λ (c : p .which < i). before (p .which) c n (p .by-period) lo (p .high))
+      (λ (c : i ≤ p .which). after (p .which) c n (p .by-period) lo (p .high))
+      (cases-lt (p .which) i)
+
+  -- the least day of the first period that gives one is the rule's least
+  pub least-found : date-of a start ≡ Some t → Orderly start (counted-gives a r start t) → start ≤ low → 693596 ≤ low → (i d : ℕ) → None-before a r start t low i → counted-gives a r start t i d ≡ true → low ≤ d → d ≤ 803168 → ((n : ℕ) → counted-gives a r start t i n ≡ true → low ≤ n → n ≤ 803168 → d ≤ n) → (gives a r start d ≡ true) × ((n : ℕ) → low ≤ n → gives a r start n ≡ true → d ≤ n)
+  least-found dated o late ranged i d before e lo hi least = (
+    given-by a r start t dated o d i (omega arith) hi (omega arith) e,
+    λ n from g.
+        let p = day-of a r start t dated n g in
+        let j = p .which in
+        ⊎-elim (λ (c : j < i). absurd (before j c n (p .by-period) from (p .high)))
+        (λ (c : i ≤ j).
+        ⊎-elim (λ (v : i < j). o .across i j d n v e (p .by-period))
+        (λ (v : j ≤ i).
+        let same : j ≡ i = omega arith in
+        least n (subst (λ (x : ℕ). counted-gives a r start t x n ≡ true) same (p .by-period)) from (p .high))
+        (cases-lt i j))
+        (cases-lt j i),
+  )
