@@ -6,9 +6,12 @@ use Prim.Native.Nat.{ℕ, _+_, _<_, _≤_}
 use native.Mathlib.Omega.{arith}
 use Rattle.std.specs.declared.option.Option.the-variants.{Some}
 use Rattle.std.proofs.shelf.Tests.{cases-lt}
-use Rattle.calendar.specs.Sheets.{Almanac}
+use Rattle.days.specs.Numbers.{in-range}
+use Rattle.calendar.specs.Sheets.{Almanac, Stands}
+use Rattle.calendar.specs.Laws.{Lawful}
 use Rattle.rules.specs.declared.checked.Rule.{Rule}
-use Rattle.rules.specs.Meaning.{Date, date-of, gives}
+use Rattle.rules.specs.Meaning.{Date, date-of, counted-period, gives}
+use Rattle.rules.proofs.Onward.{Present, first-day, counted-move}
 use Rattle.rules.proofs.Orderly.{Orderly}
 use Rattle.rules.proofs.Given.{counted-gives, day-of, given-by}
 
@@ -57,3 +60,18 @@ module _ (a : Almanac) (r : Rule) (start : ℕ) (t : Date) (low : ℕ) where
         (cases-lt i j))
         (cases-lt j i),
   )
+
+-- ── where the search may begin, and where it is over ──
+
+module _ (a : Almanac) (l : Lawful a) (r : Rule) (start : ℕ) (t : Date) (ranged : in-range start ≡ true) (st : Stands a start (t .year) (t .place) (t .day)) where
+  -- no period before one that begins before `low` gives a day from `low` on
+  pub none-skipped : (low i : ℕ) → Present a (counted-period a r start t i) → first-day a (counted-period a r start t i) < low → None-before a r start t low i
+  none-skipped low i q h j lt n e lo hi = let w = counted-move a l r start t ranged st .up-to j i n lt q e in omega arith
+
+  -- from a period on that is not there, or begins after the range, none gives a day of the range
+  pub none-beyond : (low i : ℕ) → (Present a (counted-period a r start t i) → first-day a (counted-period a r start t i) ≤ 803168 → ⊥) → None-from a r start t low i
+  none-beyond low i over j le n e lo hi =
+      let m = counted-move a l r start t ranged st in
+      let f = m .from j n e in
+      let w = m .onward i j le (m .present j n e) in
+      over (w .0) (omega (arith, w .1))

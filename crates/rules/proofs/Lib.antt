@@ -3,6 +3,7 @@ pub mod Dated
 pub mod Fitting
 pub mod Bounds
 pub mod Monthly
+pub mod Onward
 pub mod Orderly
 pub mod Given
 pub mod Leasts
