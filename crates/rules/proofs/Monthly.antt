@@ -37,6 +37,12 @@ Joins a m n = Answered a (n .0) → Answered a (m .0) × (ends a m ≡ begins a 
 pub same-year-joins : (a : Almanac) (y p : ℕ) → 1 ≤ p → Joins a (y, p) (y, p + 1)
 same-year-joins a y p h q = let b = before-next (lengths-of (a .sheet y)) p h in (q, omega arith)
 
+-- a place from 1 on, on the year's sheet if the year is answered; and the year is y0 or later
+pub record Standing (a : Almanac) (y0 : ℕ) (m : ℕ × ℕ) : Type 0 where
+  pub place-from : 1 ≤ m .1
+  pub place-to : Answered a (m .0) → m .1 ≤ a .sheet (m .0) .months
+  pub year-from : y0 ≤ m .0
+
 module _ (a : Almanac) (l : Lawful a) where
   -- a year's last month ends when the year does
   pub last-month-end : (y p : ℕ) → 1 ≤ p → p ≡ a .sheet y .months → ends a (y, p) ≡ a .sheet y .first + days-of (a .sheet y)
@@ -55,22 +61,17 @@ module _ (a : Almanac) (l : Lawful a) where
       (f, omega arith)
 
   module _ (y0 p0 : ℕ) (h0 : Answered a y0) (f : 1 ≤ p0) (g : p0 ≤ a .sheet y0 .months) where
+    -- the k-th month after the one at the place p0 of the year y0
     abbrev pub at-month : ℕ → ℕ × ℕ
     at-month k = month-after a (y0, p0) k
 
-    -- a place from 1 on, on the year's sheet if the year is answered; and the year is not before the first
-    pub record Standing (m : ℕ × ℕ) : Type 0 where
-      pub place-from : 1 ≤ m .1
-      pub place-to : Answered a (m .0) → m .1 ≤ a .sheet (m .0) .months
-      pub year-from : y0 ≤ m .0
-
-    pub month-stands : (k : ℕ) → Standing (at-month k)
+    pub month-stands : (k : ℕ) → Standing a y0 (at-month k)
     month-stands zero = record { place-from = f; place-to = λ _. g; year-from = omega arith }
     month-stands (suc k) =
         let m = at-month k in
         let u = month-stands k in
         let b = u .year-from in
-        cond-both (ltb (m .1) (a .sheet (m .0) .months)) (m .0, m .1 + 1) (m .0 + 1, 1) Standing
+        cond-both (ltb (m .1) (a .sheet (m .0) .months)) (m .0, m .1 + 1) (m .0 + 1, 1) (Standing a y0)
         (λ e.
         let lt = ltb-true (m .1) (a .sheet (m .0) .months) e in
         record { place-from = omega arith; place-to = λ _. omega arith; year-from = b })
