@@ -1,2 +1,11 @@
 pub mod Tests
 pub mod Added
+pub mod Searching
+pub mod Dated
+pub mod Fitting
+pub mod Bounds
+pub mod Monthly
+pub mod Onward
+pub mod Orderly
+pub mod Given
+pub mod Leasts

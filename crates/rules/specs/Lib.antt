@@ -1,3 +1,4 @@
 pub mod Parts
 pub mod Meaning
 pub mod Found
+pub mod Onward

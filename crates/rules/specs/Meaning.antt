@@ -11,6 +11,7 @@ use Rattle.days.specs.Months.{before, length-at}
 use Rattle.calendar.specs.declared.sheet.MonthCode.{MonthCode}
 use Rattle.calendar.specs.declared.sheet.Sheet.{Sheet}
 use Rattle.calendar.specs.Sheets.{Almanac, lengths-of, days-of, code-at}
+use Rattle.calendar.specs.Laws.{Lawful}
 use Rattle.rules.specs.declared.checked.Rule.{Rule}
 use Rattle.rules.specs.declared.parts.ByDay.{ByDay}
 use Rattle.rules.specs.declared.parts.Frequency.the-variants.{Yearly, Monthly, Weekly, Daily}
@@ -255,3 +256,9 @@ pub record Gives (a : Almanac) (r : Rule) (start n : ℕ) : Type 0 where
   pub dated : date-of a start ≡ Some date
   pub which : ℕ
   pub given : period-gives a r start date (counted-period a r start date which) n ≡ true
+
+-- over any lawful almanac and from any day of the range, the test says what the words say
+abbrev pub Rules-say : Type 0
+Rules-say =
+    (a : Almanac) → Lawful a → (r : Rule) (start n : ℕ) → in-range start ≡ true
+    → (gives a r start n ≡ true → Gives a r start n) × (Gives a r start n → gives a r start n ≡ true)

@@ -5,6 +5,7 @@ mod filling;
 mod limits;
 mod parts;
 mod period;
+mod theorem;
 mod values;
 
 pub use checked::Rule;
@@ -17,3 +18,4 @@ pub use parts::Skip;
 pub use parts::Weekdays;
 pub use period::Period;
 pub use period::Stretch;
+pub use theorem::rules_say;
