@@ -1,6 +1,6 @@
 -- Loops that look for an element, or a number, that passes a test.
 use mathlib.Core.Path.{_≡_, refl, sym, _∙_, ap}
-use mathlib.Core.Bool.{Bool, true, false, _||_, _&&_}
+use mathlib.Core.Bool.{Bool, true, false, not, _||_, _&&_}
 use mathlib.Core.List.{List, [], _∷_}
 use mathlib.Core.Logic.{⊎-elim}
 use Prim.Native.Nat.{ℕ, zero, suc, _+_, _<_, _≤_}
@@ -13,7 +13,7 @@ use Rattle.std.proofs.shelf.Lists.{at-drop-more, at-drop-all}
 use Rattle.std.proofs.shelf.Tests.{or-left, or-right, or-from, or-cases, and-parts, and-from, and-right, le-leb, leb-true, lt-ltb, le-ltb, eq-eqb, ne-eqb, cases-lt, cases-order, true≢false}
 use Rattle.rules.specs.declared.parts.Position.{Position}
 use Rattle.rules.specs.declared.parts.Position.the-variants.{FromStart, FromEnd}
-use Rattle.rules.specs.Parts.{some-of, each-of, position-ok}
+use Rattle.rules.specs.Parts.{some-of, each-of, no-items, position-ok}
 use Rattle.rules.specs.Meaning.{some-below}
 
 -- what is left of the list decides
@@ -113,3 +113,8 @@ below-next w n d =
     let c = le-ltb n (d + 1) (omega arith) in
     ap (λ (x : Bool). (x && w n) || (w d && eqb n d)) a ∙ ap (λ (x : Bool). w d && x) b ∙ and-right (w d) false refl ∙ ap (λ (x : Bool). x && w n) (sym c)))
     (cases-order n d)
+
+-- a list is empty if its length says so
+pub empty-items : {X : Type 0} (xs : List X) → eqb (length xs) 0 ≡ no-items xs
+empty-items [] = refl
+empty-items (x ∷ xs) = ne-eqb (suc (length xs)) 0 (λ e. omega arith)

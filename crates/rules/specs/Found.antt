@@ -1,6 +1,6 @@
 -- What the parts of the search for a rule's days answer.
 use mathlib.Core.Path.{_≡_}
-use mathlib.Core.Bool.{Bool, true, false}
+use mathlib.Core.Bool.{Bool, true, false, cond, not, _&&_}
 use mathlib.Core.Logic.{_⊎_}
 use mathlib.Core.List.{List}
 use Prim.Native.Nat.{ℕ, _+_, _≤_}
@@ -10,7 +10,13 @@ use Rattle.std.specs.shelf.Lists.{Has}
 use Rattle.std.specs.declared.option.Option.{Option}
 use Rattle.std.specs.declared.option.Option.the-variants.{Some, None}
 use Rattle.queue.specs.Heap.{Heaped}
+use Rattle.calendar.specs.declared.sheet.Sheet.{Sheet}
+use Rattle.calendar.specs.Sheets.{days-of}
+use Rattle.rules.specs.declared.checked.Rule.{Rule}
+use Rattle.rules.specs.declared.parts.Position.the-variants.{FromStart}
 use Rattle.rules.specs.declared.period.Stretch.{Stretch}
+use Rattle.rules.specs.Parts.{no-items}
+use Rattle.rules.specs.Meaning.{month-at, value-gives, by-month-day, by-day, weekday-passes, month-days-give, weekdays-give}
 
 -- the one day that passes a test, or none where none does
 abbrev pub One-day : (ℕ → Bool) → Option ℕ → Type 0
@@ -30,3 +36,18 @@ pub record Adds (slots slots′ : List ℕ) (used used′ most : ℕ) (f : ℕ �
   pub kept : (n : ℕ) → Has (take used slots) n → Has (take used′ slots′) n
   pub added : (n : ℕ) → f n ≡ true → Has (take used′ slots′) n
   pub only : (n : ℕ) → Has (take used′ slots′) n → Has (take used slots) n ⊎ (f n ≡ true)
+
+-- what the parts of a rule give in a month of the stretch m, if DTSTART is day d of its month: BYMONTHDAY's values, limited
+-- by BYDAY, else BYDAY's weekdays, else DTSTART's own day
+abbrev pub in-month : Rule → ℕ → Stretch → ℕ → Bool
+in-month r d m n =
+    cond (not (no-items (by-month-day r))) (weekday-passes r n && month-days-give r m n)
+    (cond (not (no-items (by-day r))) (weekdays-give r m n) (value-gives (r .skip) m n (FromStart d)))
+
+-- a sheet whose months and days are those of a calendar
+pub record Usable (s : Sheet) : Type 0 where
+  pub months : s .months ≤ 13
+  pub first : s .first ≤ 804000
+  pub year : days-of s ≤ 385
+  pub from : (p : ℕ) → 1 ≤ p → p ≤ s .months → month-at s p .from ≤ 804000
+  pub size : (p : ℕ) → 1 ≤ p → p ≤ s .months → month-at s p .size ≤ 31

@@ -5,9 +5,10 @@ ghost use Prim.Native.Nat.{ℕ, _+_, _<_, _≤_};
 ghost use lib.Dec.{ltb, eqb};
 ghost use lib.ListN.{length};
 ghost use Rattle.queue.specs.Heap.{Heaped};
+ghost use Rattle.rules.specs.declared.parts.Position.the-variants.{FromStart};
 ghost use Rattle.rules.specs.Parts.{some-of, each-of, position-ok};
 ghost use Rattle.rules.specs.Meaning.{weekday-passes, value-gives, month-days-give, weekdays-give};
-ghost use Rattle.rules.specs.Found.{One-day, Small, Adds};
+ghost use Rattle.rules.specs.Found.{One-day, Small, Adds, in-month};
 use crate::Rule;
 use crate::limits::weekday_passes;
 use crate::limits::weekdays_give;
@@ -93,4 +94,35 @@ pub fn add_weekdays(slots: &mut [u32], used: usize, rule: &Rule, stretch: Stretc
         held = add_if(slots, held, day, weekdays_give(rule, stretch, day));
     }
     held
+}
+
+// Adds DTSTART's own day of the month, as a value in another month.
+fn add_own_day(slots: &mut [u32], used: usize, rule: &Rule, day: u8, month: Stretch) -> usize
+    requires room { ⌜ used < length (now slots) ⌝ }
+    requires heaped { ⌜ Heaped ltb (now slots) used ⌝ }
+    requires small { ⌜ Small month ⌝ }
+    requires day { ⌜ 1 ≤ day ⌝ }
+    ensures { λ r. ⌜ Adds (now (slots .entry)) (now (slots .exit)) used r 1 (λ n. value-gives (now (rule .entry) .skip) month n (FromStart day)) ⌝ }
+{
+    match value_day(rule.skip, month, Position::FromStart(day)) {
+        Some(found) => add_if(slots, used, found, true),
+        None => used,
+    }
+}
+
+// Adds what the rule's parts give in a month.
+pub fn add_in_month(slots: &mut [u32], used: usize, rule: &Rule, day: u8, month: Stretch) -> usize
+    requires room { ⌜ used + 62 ≤ length (now slots) ⌝ }
+    requires heaped { ⌜ Heaped ltb (now slots) used ⌝ }
+    requires small { ⌜ Small month ⌝ ∗ ⌜ month .size ≤ 31 ⌝ }
+    requires day { ⌜ 1 ≤ day ⌝ }
+    ensures { λ r. ⌜ Adds (now (slots .entry)) (now (slots .exit)) used r 62 (in-month (now (rule .entry)) day month) ⌝ }
+{
+    if rule.has_month_days() {
+        add_month_days(slots, used, rule, month)
+    } else if rule.has_weekdays() {
+        add_weekdays(slots, used, rule, month)
+    } else {
+        add_own_day(slots, used, rule, day, month)
+    }
 }
