@@ -50,7 +50,7 @@ each-at f [] i d e h = absurd (not-suc-le-zero h)
 each-at f (x ∷ xs) zero d e h = and-parts (f x) (each-of f xs) e .0
 each-at f (x ∷ xs) (suc i) d e h = each-at f xs i d (and-parts (f x) (each-of f xs) e .1) (le-of-suc-le-suc h)
 
-or-comm : (a b : Bool) → (a || b) ≡ (b || a)
+pub or-comm : (a b : Bool) → (a || b) ≡ (b || a)
 or-comm true true = refl
 or-comm true false = refl
 or-comm false true = refl

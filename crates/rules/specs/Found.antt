@@ -1,6 +1,6 @@
 -- What the parts of the search for a rule's days answer.
 use mathlib.Core.Path.{_≡_}
-use mathlib.Core.Bool.{Bool, true, false, cond, not, _&&_}
+use mathlib.Core.Bool.{Bool, true, false, cond, not, _&&_, _||_}
 use mathlib.Core.Logic.{_⊎_}
 use mathlib.Core.List.{List}
 use Prim.Native.Nat.{ℕ, _+_, _≤_}
@@ -10,13 +10,14 @@ use Rattle.std.specs.shelf.Lists.{Has}
 use Rattle.std.specs.declared.option.Option.{Option}
 use Rattle.std.specs.declared.option.Option.the-variants.{Some, None}
 use Rattle.queue.specs.Heap.{Heaped}
+use Rattle.calendar.specs.declared.sheet.MonthCode.{MonthCode}
 use Rattle.calendar.specs.declared.sheet.Sheet.{Sheet}
 use Rattle.calendar.specs.Sheets.{days-of}
 use Rattle.rules.specs.declared.checked.Rule.{Rule}
 use Rattle.rules.specs.declared.parts.Position.the-variants.{FromStart}
 use Rattle.rules.specs.declared.period.Stretch.{Stretch}
 use Rattle.rules.specs.Parts.{no-items}
-use Rattle.rules.specs.Meaning.{month-at, value-gives, by-month-day, by-day, weekday-passes, month-days-give, weekdays-give}
+use Rattle.rules.specs.Meaning.{month-at, value-gives, code-gives, chosen, by-month, by-month-day, by-day, weekday-passes, month-days-give, weekdays-give}
 
 -- the one day that passes a test, or none where none does
 abbrev pub One-day : (ℕ → Bool) → Option ℕ → Type 0
@@ -51,3 +52,12 @@ pub record Usable (s : Sheet) : Type 0 where
   pub year : days-of s ≤ 385
   pub from : (p : ℕ) → 1 ≤ p → p ≤ s .months → month-at s p .from ≤ 804000
   pub size : (p : ℕ) → 1 ≤ p → p ≤ s .months → month-at s p .size ≤ 31
+
+-- the month at place p is one whose days a year gives: one of BYMONTH's, else every one under BYMONTHDAY, else that of
+-- DTSTART's own code
+abbrev pub taken : Rule → MonthCode → Sheet → ℕ → Bool
+taken r own s p = cond (no-items (by-month r)) (not (no-items (by-month-day r)) || code-gives (r .skip) s own p) (chosen r s p)
+
+-- BYDAY stands alone, so that its weekdays are counted in the whole year
+abbrev pub by-day-alone : Rule → Bool
+by-day-alone r = no-items (by-month-day r) && (not (no-items (by-day r)) && no-items (by-month r))

@@ -21,6 +21,6 @@ returns c =
     let passes : code-passes r (code-at s p) ≡ true = search needs in
     adds-same _ _ _ _ 62 62 _ _ (omega arith)
     (λ n.
-        ap (λ (m : Stretch). in-month r (c .args .day) m n) (c .month-stretch .ensures)
-        ∙ ap (λ (b : Bool). b && in-month r (c .args .day) (month-at s p) n) (sym (ap (λ (b : Bool). b && code-passes r (code-at s p)) here ∙ passes)))
+    ap (λ (m : Stretch). in-month r (c .args .day) m n) (c .month-stretch .ensures)
+    ∙ ap (λ (b : Bool). b && in-month r (c .args .day) (month-at s p) n) (sym (ap (λ (b : Bool). b && code-passes r (code-at s p)) here ∙ passes)))
     (c .add-in-month .ensures)

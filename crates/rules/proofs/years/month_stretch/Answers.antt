@@ -27,8 +27,8 @@ returns c =
     let on : k < s .months = omega arith in
     let less : k ≤ s .months = omega arith in
     let from : c .loop-length .from ≡ s .first + total (take k (take (s .months) (s .lengths))) =
-        c .loop-length .inv .0 ∙ ap (λ (j : ℕ). s .first + total (take j (s .lengths))) end
-        ∙ ap (λ xs. s .first + total xs) (sym (take-take k (s .months) (s .lengths) less)) in
+    c .loop-length .inv .0 ∙ ap (λ (j : ℕ). s .first + total (take j (s .lengths))) end
+    ∙ ap (λ xs. s .first + total xs) (sym (take-take k (s .months) (s .lengths) less)) in
     let size : c .from .result ≡ getD (take (s .months) (s .lengths)) k 0 = c .from .ensures ∙ sym (getD-take (s .months) (s .lengths) k 0 on) in
     ap (λ (x : ℕ). record { from = x; size = c .from .result }) from
     ∙ ap (λ (x : ℕ). record { from = s .first + total (take k (take (s .months) (s .lengths))); size = x }) size
