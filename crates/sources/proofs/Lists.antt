@@ -24,5 +24,7 @@ listed-push [] x d = grind arith
 listed-push (y ∷ ys) x d = let more = listed-push ys x d in grind arith
 
 -- one more day of a list
-pub listed-more : (xs : List ℕ) (i : ℕ) → i < length xs → Same (union (listed (take i xs)) (single (getD xs i 0))) (listed (take (i + 1) xs))
-listed-more xs i h d _ = sym (ap (λ (ys : List ℕ). listed ys d) (take-more xs i 0 h) ∙ listed-push (take i xs) (getD xs i 0) d)
+pub listed-more : (xs : List ℕ) (i : ℕ) → i < length xs →
+    Same (union (listed (take i xs)) (single (getD xs i 0))) (listed (take (i + 1) xs))
+listed-more xs i h d _ =
+    sym (ap (λ (ys : List ℕ). listed ys d) (take-more xs i 0 h) ∙ listed-push (take i xs) (getD xs i 0) d)

@@ -29,7 +29,7 @@ Found set from None = (e : ℕ) → Day-of set e → from ≤ e → ⊥
 abbrev pub single : ℕ → ℕ → Bool
 single day d = eqb day d
 
--- the days of a list, in any order, each as often as it likes
+-- the days of a list, in any order; a day may stand in it twice
 abbrev pub listed : List ℕ → ℕ → Bool
 listed [] d = false
 listed (day ∷ more) d = single day d || listed more d
@@ -70,6 +70,6 @@ Last-of set n None = (e : ℕ) → Day-of set e → count-below set e < n → �
 abbrev pub Same : (ℕ → Bool) → (ℕ → Bool) → Type 0
 Same one other = (d : ℕ) → in-range d ≡ true → one d ≡ other d
 
--- to count a set's days is to end it at the last of those counted
+-- the first n days of a set are its days until the last of them, for every set and n
 abbrev pub Count-is-until : Type 0
 Count-is-until = (set : ℕ → Bool) (n d : ℕ) → Last set n d → Same (until set d) (first-n set n)

@@ -34,16 +34,17 @@ pub struct Count<S> {
 }
 
 impl<S: Source> Count<S> {
+    // Walks over the days once, to the last of them.
     pub fn over(inner: S, n: u16) -> Count<S>
         requires { ⌜ S·Source .ready inner ⌝ }
         ensures whole { λ r. ⌜ (r .inner ≡ inner) × (r .n ≡ n) ⌝ }
         ensures worked { λ r. ⌜ Last-of (S·Source .days (r .inner)) (r .n) (r .last) ⌝ }
     {
         let last = last_day(&inner, n);
-        Count { inner, n, last }
+        Count::with_last(inner, n, last)
     }
 
-    // The same from a last day that was kept: ready exactly where it is that day.
+    // The same with no walk, from a last day that was kept: ready exactly where it is that day.
     pub fn with_last(inner: S, n: u16, last: Option<u32>) -> Count<S>
         ensures { λ r. ⌜ (r .inner ≡ inner) × (r .n ≡ n) × (r .last ≡ last) ⌝ }
     {

@@ -28,7 +28,8 @@ pub use layers::UnionSource;
 pub use layers::Until;
 pub use layers::UntilSource;
 
-// A set of days in the range. What has been worked out beforehand has to be right, or `ready`, before it is asked.
+// A set of days in the range that answers which of them comes next. What a value keeps worked out has to be right, which
+// `ready` says, before it is asked.
 pub trait Source {
     ghost days: { Self → ℕ → Bool };
 
