@@ -61,17 +61,17 @@ module _ (set : ℕ → Bool) where
   unfolding count-below
   start = record { counted = refl; newest = refl }
 
-  pub step : (i at d : ℕ) (last : Option ℕ) → Walked i at last → Least set at d → Walked (i + 1) (d + 1) (Some d)
-  step i at d last w l =
+  pub step : {i at d : ℕ} {last : Option ℕ} → Walked i at last → Least set at d → Walked (i + 1) (d + 1) (Some d)
+  step {i} {at} {d} {last} w l =
       let same = below-least at d l in
       let more = below-on d (l .day) in
       record { counted = omega (arith, w .counted); newest = (l .day, refl) }
 
   -- the walk ends where no day further on is one of the first n
-  pub walked-last : (n i at : ℕ) (last : Option ℕ) → Walked i at last → i ≤ n →
+  pub walked-last : {n i at : ℕ} (last : Option ℕ) → Walked i at last → i ≤ n →
       ((e : ℕ) → Day-of set e → at ≤ e → n ≤ count-below set e) → Last-of set n last
-  walked-last n i at None w few over = λ e o h. absurd (omega (arith, over e o (omega (arith, w .newest))))
-  walked-last n i at (Some d) w few over =
+  walked-last {n} {i} {at} None w few over = λ e o h. absurd (omega (arith, over e o (omega (arith, w .newest))))
+  walked-last {n} {i} {at} (Some d) w few over =
       let o = w .newest .0 in
       let is = w .newest .1 in
       let more = below-on d o in

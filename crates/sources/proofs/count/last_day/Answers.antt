@@ -6,14 +6,13 @@ pub loop-i-holds : need.loop-i-holds
 loop-i-holds g c = start _
 
 pub loop-i-again : need.loop-i-again
-loop-i-again g c = step _ (c .loop-i .-i) (c .loop-i .at) (c .in-Some .day) (c .loop-i .last) (c .loop-i .inv) (c .in-Some .ensures tt)
+loop-i-again g c = step _ (c .loop-i .inv) (c .in-Some .ensures tt)
 
 pub returns-after-loop-i : need.returns-after-loop-i
 returns-after-loop-i g c =
-    walked-last _ (c .args .n) (c .loop-i .-i) (c .loop-i .at) (c .loop-i .last) (c .loop-i .inv) (omega arith)
-    (λ e o h. omega (arith, below-mono (g .S·Source .days (c .args .source .now)) (c .loop-i .at) e h, c .loop-i .inv .counted))
+    let set = g .S·Source .days (c .args .source .now) in
+    walked-last set (c .loop-i .last) (c .loop-i .inv) (omega arith)
+    (λ e o h. omega (arith, below-mono set (c .loop-i .at) e h, c .loop-i .inv .counted))
 
 pub returns-in-None : need.returns-in-None
-returns-in-None g c =
-    walked-last _ (c .args .n) (c .loop-i .-i) (c .loop-i .at) (c .loop-i .last) (c .loop-i .inv) (omega arith)
-    (λ e o h. absurd (c .in-None .ensures tt e o h))
+returns-in-None g c = walked-last _ (c .loop-i .last) (c .loop-i .inv) (omega arith) (λ e o h. absurd (c .in-None .ensures tt e o h))
