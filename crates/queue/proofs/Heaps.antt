@@ -1,16 +1,18 @@
 -- An entry rises and sinks in a heap, and the first entry of a heap is its least.
-use mathlib.Core.Path.{_≡_, refl, sym, ap, _∙_}
+use mathlib.Core.Path.{_≡_, refl, sym, ap, subst, _∙_}
 use mathlib.Core.Logic.{⊎-elim}
 use mathlib.Core.Bool.{Bool, true, false}
 use mathlib.Core.List.{List}
 use Prim.Native.Nat.{ℕ, zero, suc, _+_, _-_, _*_, _/_, _≤_, _<_}
 use native.Mathlib.Omega.{arith}
-use lib.ListN.{length, getD}
+use lib.ListN.{length, getD, take}
+use Rattle.std.specs.shelf.Lists.{Has}
 use Rattle.std.proofs.shelf.Lists.{getD-read}
 use Rattle.std.proofs.shelf.Tests.{cases-eq, cases-bool}
 use Rattle.queue.specs.Order.{Strict}
-use Rattle.queue.specs.Heap.{Heaped}
+use Rattle.queue.specs.Heap.{Heaped, Least}
 use Rattle.queue.specs.Steps.{Heaped-but, Leads, Follows}
+use Rattle.queue.proofs.Members.{has-place, place-of}
 
 module _ {X : Type 0} (before : X → X → Bool) where
   -- the same test, of equal entries
@@ -96,8 +98,14 @@ module _ {X : Type 0} (before : X → X → Bool) where
     pub rests : (xs : List X) (j c n : ℕ) → ((d : X) → before (getD xs c d) (getD xs j d) ≡ false) → Leads before xs c j n → Leads before xs j j n
     rests xs j c n t leads k d a b f = o .chain _ _ _ (leads k d a b f) (t d)
 
-    -- no entry of a heap is before the first
-    pub top : (xs : List X) (n : ℕ) (d : X) → Heaped before xs n → (fuel k : ℕ) → k ≤ fuel → k < n → before (getD xs k d) (getD xs 0 d) ≡ false
-    top xs n d h zero k a b = itself xs 0 k d (omega arith)
-    top xs n d h (suc fuel) k a b = ⊎-elim (itself xs 0 k d)
-        (λ u. o .chain _ _ _ (h ((k - 1) / 2) k d (omega arith) (omega arith) b) (top xs n d h fuel ((k - 1) / 2) (omega arith) (omega arith))) (cases-eq k 0)
+    -- no entry of a heap is before the first, since none is before its parent: `up` bounds the way up from k
+    from-top : (xs : List X) (n : ℕ) (d : X) → Heaped before xs n → (up k : ℕ) → k ≤ up → k < n → before (getD xs k d) (getD xs 0 d) ≡ false
+    from-top xs n d h zero k a b = itself xs 0 k d (omega arith)
+    from-top xs n d h (suc up) k a b = ⊎-elim (itself xs 0 k d)
+        (λ u. o .chain _ _ _ (h ((k - 1) / 2) k d (omega arith) (omega arith) b) (from-top xs n d h up ((k - 1) / 2) (omega arith) (omega arith))) (cases-eq k 0)
+
+    pub top-least : (xs : List X) (n : ℕ) (x : X) → 0 < n → n ≤ length xs → x ≡ getD xs 0 x → Heaped before xs n → Least before x (take n xs)
+    top-least xs n x some h is heaped = record {
+      among = subst (Has (take n xs)) (sym is) (has-place xs n 0 x some h);
+      first = λ y m. let at = place-of xs n y h m in alike (sym (at .2 x)) is (from-top xs n x heaped (at .0) (at .0) (omega arith) (at .1));
+    }

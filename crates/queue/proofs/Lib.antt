@@ -1,3 +1,3 @@
+pub mod Members
 pub mod Heaps
 pub mod Fronts
-pub mod Members

@@ -1,9 +1,9 @@
--- Which entries a queue holds after a push and a pop, and what that says of the entries of a list and their number.
+-- Which entries a list holds, in which of its first places, and how many of them pass a test.
 use mathlib.Core.Path.{_≡_, refl, sym, ap, subst, _∙_}
 use mathlib.Core.List.{List, [], _∷_}
 use mathlib.Core.Bool.{Bool, true, false, cond}
-use mathlib.Core.Logic.{_⊎_, inl, inr, ⊎-elim}
-use Prim.Native.Nat.{ℕ, zero, suc, _+_, _-_, _≤_, _<_}
+use mathlib.Core.Logic.{_⊎_, inl, inr}
+use Prim.Native.Nat.{ℕ, zero, suc, _+_, _≤_, _<_}
 use native.Mathlib.Nat.{zero-add}
 use native.Mathlib.Omega.{arith}
 use lib.ListN.{length, getD, take}
@@ -14,9 +14,6 @@ use Rattle.std.proofs.shelf.Elements.{has-getD}
 use Rattle.std.proofs.shelf.Sums.{sumBy-cons}
 use Rattle.std.proofs.shelf.Sorted.{shuffled-sym, has-shuffled, sumBy-shuffled}
 use Rattle.std.proofs.shelf.Tests.{cond-true, cond-false}
-use Rattle.queue.specs.Order.{Strict}
-use Rattle.queue.specs.Heap.{Heaped, Least}
-use Rattle.queue.proofs.Heaps.{alike, top}
 
 module _ {X : Type 0} where
   pub has-first : (x : X) (xs : List X) → Has (x ∷ xs) x
@@ -29,37 +26,30 @@ module _ {X : Type 0} where
   has-cases x y xs (zero, l, e) = inl (e x)
   has-cases x y xs (suc k, l, e) = inr (k, omega arith, e)
 
-  -- the entry at a place in use
-  pub has-in-use : (xs : List X) (n k : ℕ) (d : X) → k < n → n ≤ length xs → Has (take n xs) (getD xs k d)
-  has-in-use xs n k d l h = subst (Has (take n xs)) (getD-take n xs k d l) (has-getD (take n xs) k d (omega (arith, length-take-le n xs h)))
+  -- the first n places hold what stands at each of them
+  pub has-place : (xs : List X) (n k : ℕ) (d : X) → k < n → n ≤ length xs → Has (take n xs) (getD xs k d)
+  has-place xs n k d l h = subst (Has (take n xs)) (getD-take n xs k d l) (has-getD (take n xs) k d (omega (arith, length-take-le n xs h)))
 
-  -- an entry in use, by its place
+  -- and what they hold stands at one of them
   pub place-of : (xs : List X) (n : ℕ) (y : X) → n ≤ length xs → Has (take n xs) y → (k : ℕ) × (k < n) × ((d : X) → getD xs k d ≡ y)
   place-of xs n y h (k, l, e) =
       let in′ : k < n = omega (arith, length-take-le n xs h) in
       (k, in′, λ d. sym (getD-take n xs k d in′) ∙ e d)
 
-  -- lists of the same entries in any order have the same members
-  pub has-back : (xs ys : List X) (y : X) → Shuffled xs ys → Has ys y → Has xs y
-  has-back xs ys y s = has-shuffled ys xs y (shuffled-sym xs ys s)
+  -- lists of the same entries in another order hold the same
+  pub same-members : (xs ys : List X) → Shuffled xs ys → (y : X) → (Has xs y → Has ys y) × (Has ys y → Has xs y)
+  same-members xs ys s y = (has-shuffled xs ys y s, has-shuffled ys xs y (shuffled-sym xs ys s))
 
-  -- `all` holds x and the others, in any order: so it is after a push of x, and so it was before a pop of x
+  -- `all` has x and the others, in any order: so it is after a push of x, and so it was before a pop of x
   module _ (x : X) (others all : List X) (s : Shuffled (x ∷ others) all) where
     pub with-itself : Has all x
-    with-itself = has-shuffled _ _ x s (has-first x others)
+    with-itself = same-members (x ∷ others) all s x .0 (has-first x others)
 
     pub with-keeps : (y : X) → Has others y → Has all y
-    with-keeps y h = has-shuffled _ _ y s (has-later x y others h)
+    with-keeps y h = same-members (x ∷ others) all s y .0 (has-later x y others h)
 
     pub with-only : (y : X) → Has all y → (x ≡ y) ⊎ Has others y
-    with-only y h = has-cases x y others (has-back _ _ y s h)
-
-  -- the first entry of a heap is its least
-  pub top-least : (before : X → X → Bool) → Strict before → (xs : List X) (n : ℕ) (x : X) → 0 < n → n ≤ length xs → x ≡ getD xs 0 x → Heaped before xs n → Least before x (take n xs)
-  top-least before o xs n x some h is heaped = record {
-    among = subst (Has (take n xs)) (sym is) (has-in-use xs n 0 x some h);
-    first = λ y m. let at = place-of xs n y h m in alike before (sym (at .2 x)) is (top before o xs n x heaped (at .0) (at .0) (omega arith) (at .1));
-  }
+    with-only y h = has-cases x y others (same-members (x ∷ others) all s y .1 h)
 
   -- how many entries pass a test
   module _ (p : X → Bool) where

@@ -15,7 +15,7 @@ ghost use Rattle.queue.specs.Steps.{Heaped-but, Leads};
 #[cfg(test)]
 mod tests;
 
-// What a queue can hold: values of a total order, which their `Ord` tells.
+// What a queue can hold: values of a total order. `before` is the test of that order, and their `Ord` says the same.
 pub trait Entry: Ord + Copy {
     ghost before: { Self → Self → Bool };
 
@@ -88,7 +88,7 @@ fn sink<T: Entry>(front: &mut [T])
     }
 }
 
-// Puts an entry among those of the first `used` places, which then take up one place more.
+// Adds an entry to those of the first `used` places, which then take up one place more.
 pub fn push<T: Entry>(slots: &mut [T], used: usize, entry: T)
     requires room { ⌜ used < length (now slots) ⌝ }
     requires heaped { ⌜ Heaped (T·Entry .before) (now slots) used ⌝ }
@@ -118,7 +118,7 @@ pub fn pop<T: Entry>(slots: &mut [T], used: usize) -> Option<T>
     Some(top)
 }
 
-// The least entry of the first `used` places that is not before `from`. The places in use are used up.
+// The least entry of the first `used` places that is not before `from`. What these places hold afterwards is left open.
 pub fn first_from<T: Entry>(slots: &mut [T], used: usize, from: T) -> Option<T>
     requires within { ⌜ used ≤ length (now slots) ⌝ }
     requires heaped { ⌜ Heaped (T·Entry .before) (now slots) used ⌝ }

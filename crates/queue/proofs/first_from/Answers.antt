@@ -1,5 +1,5 @@
 use mathlib.Core.Path.{_≡_, _∙_, subst}
-use mathlib.Core.Bool.{true, false}
+use mathlib.Core.Bool.{true}
 use mathlib.Core.List.{_∷_}
 use mathlib.Core.Logic.{⊎-elim}
 use Prim.Native.Nat.{_-_}
@@ -14,11 +14,12 @@ use Rattle.queue.proofs.first_from.Needs as need
 pub returns-then-not-earlier : need.returns-then-not-earlier
 returns-then-not-earlier g c =
     let l = c .loop-entry in
+    let x = c .in-Some .entry in
     let least = c .in-Some .ensures tt .popped .least in
     record {
       first = record {
-        among = l .inv .4 (c .in-Some .entry) (least .among);
-        late = cc;
+        among = l .inv .4 x (least .among);
+        late = rw (c .earlier .ensures) at (c .if-not-earlier .taken);
         first = λ y h late. least .first y (l .inv .5 y h late);
       };
       beyond = past-later (c .pop .last .slots) (l .slots) (l .left) (c .args .used) (omega arith) (c .pop .ensures .beyond) ∙ l .inv .3;
@@ -32,7 +33,7 @@ loop-entry-again g c =
     let had = take (l .left) (l .slots) in
     let rest = take (l .left - 1) (c .pop .last .slots) in
     let others = shuffled-sym had (x ∷ rest) (c .in-Some .ensures tt .popped .others) in
-    let early : before x (c .args .from) ≡ true = cc in (
+    let early : before x (c .args .from) ≡ true = rw (c .earlier .ensures) at (c .if-not-earlier .left) in (
       omega arith,
       omega arith,
       c .pop .ensures .heaped,

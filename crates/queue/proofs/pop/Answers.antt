@@ -7,9 +7,8 @@ use lib.ListN.{length, take, drop}
 use Rattle.std.proofs.shelf.Lists.{getD-take, take-at, take-append-le, length-append, length-drop}
 use Rattle.std.proofs.shelf.Parts.{drop-append-drop}
 use Rattle.std.proofs.shelf.Sorted.{shuffled-trans}
-use Rattle.queue.proofs.Heaps.{first-begins, heaped-same}
+use Rattle.queue.proofs.Heaps.{first-begins, heaped-same, top-least}
 use Rattle.queue.proofs.Fronts.{pops, front-at}
-use Rattle.queue.proofs.Members.{top-least}
 use Rattle.queue.proofs.pop.Needs as need
 
 pub sink-requires : need.sink-requires
