@@ -19,7 +19,7 @@ use queue::DayEntry;
 use queue::push;
 
 // Adds a day, if it is to be kept.
-fn add_if(slots: &mut [u32], used: usize, day: u32, keep: bool) -> usize
+pub fn add_if(slots: &mut [u32], used: usize, day: u32, keep: bool) -> usize
     requires room { ⌜ used < length (now slots) ⌝ }
     requires heaped { ⌜ Heaped ltb (now slots) used ⌝ }
     ensures { λ r. ⌜ Adds (now (slots .entry)) (now (slots .exit)) used r 1 (λ n. keep && eqb n day) ⌝ }

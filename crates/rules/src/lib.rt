@@ -8,6 +8,7 @@ mod period;
 mod present;
 mod theorem;
 mod values;
+mod weeks;
 mod years;
 
 pub use checked::Rule;
