@@ -10,3 +10,4 @@ pub mod Onward
 pub mod Orderly
 pub mod Given
 pub mod Leasts
+pub mod Sized

@@ -12,12 +12,14 @@ use Rattle.std.specs.declared.option.Option.the-variants.{Some, None}
 use Rattle.queue.specs.Heap.{Heaped}
 use Rattle.calendar.specs.declared.sheet.MonthCode.{MonthCode}
 use Rattle.calendar.specs.declared.sheet.Sheet.{Sheet}
-use Rattle.calendar.specs.Sheets.{days-of}
+use Rattle.calendar.specs.Sheets.{Almanac, Answered, days-of}
 use Rattle.rules.specs.declared.checked.Rule.{Rule}
 use Rattle.rules.specs.declared.parts.Position.the-variants.{FromStart}
+use Rattle.rules.specs.declared.period.Period.{Period}
+use Rattle.rules.specs.declared.period.Period.the-variants.{Year, Month, Week, Day}
 use Rattle.rules.specs.declared.period.Stretch.{Stretch}
 use Rattle.rules.specs.Parts.{no-items}
-use Rattle.rules.specs.Meaning.{month-at, value-gives, code-gives, chosen, by-month, by-month-day, by-day, weekday-passes, month-days-give, weekdays-give}
+use Rattle.rules.specs.Meaning.{Date, month-at, value-gives, code-gives, chosen, by-month, by-month-day, by-day, weekday-passes, month-days-give, weekdays-give}
 
 -- the one day that passes a test, or none where none does
 abbrev pub One-day : (ℕ → Bool) → Option ℕ → Type 0
@@ -61,3 +63,14 @@ taken r own s p = cond (no-items (by-month r)) (not (no-items (by-month-day r)) 
 -- BYDAY stands alone, so that its weekdays are counted in the whole year
 abbrev pub by-day-alone : Rule → Bool
 by-day-alone r = no-items (by-month-day r) && (not (no-items (by-day r)) && no-items (by-month r))
+
+-- a period that the almanac has, among the days of calendars
+abbrev pub Placed : Almanac → Period → Type 0
+Placed a (Year y) = Answered a y
+Placed a (Month y p) = Answered a y × (1 ≤ p)
+Placed a (Week b) = b ≤ 804000
+Placed a (Day d) = d ≤ 804000
+
+-- a date as three numbers
+abbrev pub the-date : ℕ × ℕ × ℕ → Date
+the-date d = record { year = d .0; place = d .1; day = d .2 }
