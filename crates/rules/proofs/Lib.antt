@@ -9,3 +9,4 @@ pub mod Onward
 pub mod Orderly
 pub mod Given
 pub mod Leasts
+pub mod Stepping

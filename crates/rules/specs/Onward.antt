@@ -4,10 +4,11 @@ use mathlib.Core.Bool.{Bool, true}
 use Prim.Native.Nat.{ℕ, _+_, _<_, _≤_}
 use Rattle.std.specs.declared.option.Option.{Option}
 use Rattle.std.specs.declared.option.Option.the-variants.{Some, None}
-use Rattle.calendar.specs.Sheets.{Almanac}
+use Rattle.days.specs.Numbers.{in-range}
+use Rattle.calendar.specs.Sheets.{Almanac, Answered, Stands}
 use Rattle.rules.specs.declared.checked.Rule.{Rule}
 use Rattle.rules.specs.declared.period.Period.{Period}
-use Rattle.rules.specs.Meaning.{Date, counted-period, period-gives}
+use Rattle.rules.specs.Meaning.{Date, month-after, counted-period, period-gives}
 
 -- the i-th period that counts gives n
 abbrev pub counted-gives : Almanac → Rule → ℕ → Date → ℕ → ℕ → Bool
@@ -35,3 +36,14 @@ pub record Reached (a : Almanac) (r : Rule) (start : ℕ) (t : Date) (low : ℕ)
 abbrev pub Next : Almanac → Rule → ℕ → Date → ℕ → ℕ → Option Period → Type 0
 Next a r start t low i (Some p) = p ≡ counted-period a r start t (i + 1)
 Next a r start t low i None = None-from a r start t low (i + 1)
+
+-- the answer is what comes after the period p, whichever rule of that interval counts p
+abbrev pub Steps : Almanac → Period → ℕ → Option Period → Type 0
+Steps a p interval q =
+    (r : Rule) (start : ℕ) (t : Date) (low i : ℕ) → in-range start ≡ true → Stands a start (t .year) (t .place) (t .day)
+    → interval ≡ r .interval → p ≡ counted-period a r start t i → Next a r start t low i q
+
+-- the month n months after m, or none if a month on the way there is of a year that the almanac does not answer
+abbrev pub Months-on : Almanac → ℕ × ℕ → ℕ → Option (ℕ × ℕ) → Type 0
+Months-on a m n (Some q) = q ≡ month-after a m n
+Months-on a m n None = (k : ℕ) × (k ≤ n) × (Answered a (month-after a m k .0) → ⊥)

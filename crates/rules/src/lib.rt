@@ -5,6 +5,7 @@ mod filling;
 mod limits;
 mod parts;
 mod period;
+mod steps;
 mod theorem;
 mod values;
 
