@@ -1,7 +1,7 @@
 -- A search through the periods of a rule: what it has passed, and what comes next.
 use mathlib.Core.Path.{_≡_}
 use mathlib.Core.Bool.{Bool, true}
-use Prim.Native.Nat.{ℕ, _+_, _<_, _≤_}
+use Prim.Native.Nat.{ℕ, _+_, _*_, _<_, _≤_}
 use Rattle.std.specs.declared.option.Option.{Option}
 use Rattle.std.specs.declared.option.Option.the-variants.{Some, None}
 use Rattle.days.specs.Numbers.{in-range}
@@ -47,3 +47,13 @@ Steps a p interval q =
 abbrev pub Months-on : Almanac → ℕ × ℕ → ℕ → Option (ℕ × ℕ) → Type 0
 Months-on a m n (Some q) = q ≡ month-after a m n
 Months-on a m n None = (k : ℕ) × (k ≤ n) × (Answered a (month-after a m k .0) → ⊥)
+
+-- the year r is some intervals after y, none of them or so many that it still begins before the day `low`
+pub record Year-before (a : Almanac) (y interval low r : ℕ) : Type 0 where
+  pub which : ℕ
+  pub is : r ≡ y + which * interval
+  pub begins : Answered a y → 0 < which → Answered a r × (a .sheet r .first < low)
+
+-- a date as three numbers
+abbrev pub the-date : ℕ × ℕ × ℕ → Date
+the-date d = record { year = d .0; place = d .1; day = d .2 }
