@@ -11,3 +11,4 @@ pub mod Orderly
 pub mod Given
 pub mod Leasts
 pub mod Sized
+pub mod Stepping

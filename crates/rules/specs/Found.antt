@@ -19,7 +19,7 @@ use Rattle.rules.specs.declared.period.Period.{Period}
 use Rattle.rules.specs.declared.period.Period.the-variants.{Year, Month, Week, Day}
 use Rattle.rules.specs.declared.period.Stretch.{Stretch}
 use Rattle.rules.specs.Parts.{no-items}
-use Rattle.rules.specs.Meaning.{Date, month-at, value-gives, code-gives, chosen, by-month, by-month-day, by-day, weekday-passes, month-days-give, weekdays-give}
+use Rattle.rules.specs.Meaning.{month-at, value-gives, code-gives, chosen, by-month, by-month-day, by-day, weekday-passes, month-days-give, weekdays-give}
 
 -- the one day that passes a test, or none where none does
 abbrev pub One-day : (ℕ → Bool) → Option ℕ → Type 0
@@ -70,7 +70,3 @@ Placed a (Year y) = Answered a y
 Placed a (Month y p) = Answered a y × (1 ≤ p)
 Placed a (Week b) = b ≤ 804000
 Placed a (Day d) = d ≤ 804000
-
--- a date as three numbers
-abbrev pub the-date : ℕ × ℕ × ℕ → Date
-the-date d = record { year = d .0; place = d .1; day = d .2 }

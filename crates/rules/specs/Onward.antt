@@ -1,13 +1,14 @@
 -- A search through the periods of a rule: what it has passed, and what comes next.
 use mathlib.Core.Path.{_≡_}
 use mathlib.Core.Bool.{Bool, true}
-use Prim.Native.Nat.{ℕ, _+_, _<_, _≤_}
+use Prim.Native.Nat.{ℕ, _+_, _*_, _<_, _≤_}
 use Rattle.std.specs.declared.option.Option.{Option}
 use Rattle.std.specs.declared.option.Option.the-variants.{Some, None}
-use Rattle.calendar.specs.Sheets.{Almanac}
+use Rattle.days.specs.Numbers.{in-range}
+use Rattle.calendar.specs.Sheets.{Almanac, Answered, Stands}
 use Rattle.rules.specs.declared.checked.Rule.{Rule}
 use Rattle.rules.specs.declared.period.Period.{Period}
-use Rattle.rules.specs.Meaning.{Date, counted-period, period-gives}
+use Rattle.rules.specs.Meaning.{Date, month-after, counted-period, period-gives}
 
 -- the i-th period that counts gives n
 abbrev pub counted-gives : Almanac → Rule → ℕ → Date → ℕ → ℕ → Bool
@@ -35,3 +36,24 @@ pub record Reached (a : Almanac) (r : Rule) (start : ℕ) (t : Date) (low : ℕ)
 abbrev pub Next : Almanac → Rule → ℕ → Date → ℕ → ℕ → Option Period → Type 0
 Next a r start t low i (Some p) = p ≡ counted-period a r start t (i + 1)
 Next a r start t low i None = None-from a r start t low (i + 1)
+
+-- the answer is what comes after the period p, whichever rule of that interval counts p
+abbrev pub Steps : Almanac → Period → ℕ → Option Period → Type 0
+Steps a p interval q =
+    (r : Rule) (start : ℕ) (t : Date) (low i : ℕ) → in-range start ≡ true → Stands a start (t .year) (t .place) (t .day)
+    → interval ≡ r .interval → p ≡ counted-period a r start t i → Next a r start t low i q
+
+-- the month n months after m, or none if a month on the way there is of a year that the almanac does not answer
+abbrev pub Months-on : Almanac → ℕ × ℕ → ℕ → Option (ℕ × ℕ) → Type 0
+Months-on a m n (Some q) = q ≡ month-after a m n
+Months-on a m n None = (k : ℕ) × (k ≤ n) × (Answered a (month-after a m k .0) → ⊥)
+
+-- the year r is some intervals after y, none of them or so many that it still begins before the day `low`
+pub record Year-before (a : Almanac) (y interval low r : ℕ) : Type 0 where
+  pub which : ℕ
+  pub is : r ≡ y + which * interval
+  pub begins : Answered a y → 0 < which → Answered a r × (a .sheet r .first < low)
+
+-- a date as three numbers
+abbrev pub the-date : ℕ × ℕ × ℕ → Date
+the-date d = record { year = d .0; place = d .1; day = d .2 }

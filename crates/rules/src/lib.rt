@@ -7,6 +7,7 @@ mod parts;
 mod period;
 mod periods;
 mod present;
+mod steps;
 mod theorem;
 mod values;
 mod weeks;

@@ -8,7 +8,8 @@ use Rattle.calendar.specs.declared.sheet.Sheet.{Sheet}
 use Rattle.calendar.specs.Sheets.{code-at}
 use Rattle.rules.specs.declared.period.Period.{Period}
 use Rattle.rules.specs.Meaning.{year-gives, month-gives, month-at, code-passes, period-gives}
-use Rattle.rules.specs.Found.{Placed, Usable, in-month, the-date}
+use Rattle.rules.specs.Found.{Placed, Usable, in-month}
+use Rattle.rules.specs.Onward.{the-date}
 use Rattle.rules.proofs.Sized.{usable}
 use Rattle.rules.proofs.Added.{adds-same}
 use Rattle.rules.proofs.periods.add_period.Needs as need
