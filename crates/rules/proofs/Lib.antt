@@ -11,4 +11,5 @@ pub mod Orderly
 pub mod Given
 pub mod Leasts
 pub mod Sized
+pub mod Finding
 pub mod Stepping

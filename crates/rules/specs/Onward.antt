@@ -1,13 +1,15 @@
 -- A search through the periods of a rule: what it has passed, and what comes next.
 use mathlib.Core.Path.{_≡_}
-use mathlib.Core.Bool.{Bool, true}
+use mathlib.Core.Bool.{Bool, true, cond}
 use Prim.Native.Nat.{ℕ, _+_, _*_, _<_, _≤_}
+use lib.Dec.{leb, ltb}
 use Rattle.std.specs.declared.option.Option.{Option}
 use Rattle.std.specs.declared.option.Option.the-variants.{Some, None}
 use Rattle.days.specs.Numbers.{in-range}
 use Rattle.calendar.specs.Sheets.{Almanac, Answered, Stands}
 use Rattle.rules.specs.declared.checked.Rule.{Rule}
 use Rattle.rules.specs.declared.period.Period.{Period}
+use Rattle.rules.specs.declared.period.Period.the-variants.{Year, Month, Week, Day}
 use Rattle.rules.specs.Meaning.{Date, month-after, counted-period, period-gives}
 
 -- the i-th period that counts gives n
@@ -57,3 +59,14 @@ pub record Year-before (a : Almanac) (y interval low r : ℕ) : Type 0 where
 -- a date as three numbers
 abbrev pub the-date : ℕ × ℕ × ℕ → Date
 the-date d = record { year = d .0; place = d .1; day = d .2 }
+
+-- the almanac has the period, and it does not begin after the range
+abbrev pub reachable : Almanac → Period → Bool
+reachable a (Year y) = ltb 0 (a .sheet y .months)
+reachable a (Month y p) = ltb 0 (a .sheet y .months)
+reachable a (Week b) = leb b 803168
+reachable a (Day d) = leb d 803168
+
+-- a day, if it is not after the range
+abbrev pub not-after : ℕ → Option ℕ
+not-after d = cond (leb d 803168) (Some d) None

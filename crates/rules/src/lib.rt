@@ -7,6 +7,7 @@ mod parts;
 mod period;
 mod periods;
 mod present;
+mod source;
 mod steps;
 mod theorem;
 mod values;
