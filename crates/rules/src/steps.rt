@@ -80,7 +80,8 @@ fn first_year<C: Calendar>(calendar: &C, year: u32, interval: u32, low: u32) -> 
     }
 }
 
-// A period at which a search for days from `low` on may begin, close before `low` if that takes no walk.
+// A period at which a search for days from `low` on may begin, since none before it gives one. Months are not counted
+// without a walk through the years, so there it is DTSTART's own.
 pub fn first_period<C: Calendar>(
     calendar: &C,
     rule: &Rule,

@@ -1,4 +1,3 @@
-use native.Mathlib.Omega.{arith}
 use mathlib.Core.Path.{refl}
 use Rattle.calendar.proofs.Years.{stands-within}
 use Rattle.rules.proofs.Stepping.{year-before}
