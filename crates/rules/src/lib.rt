@@ -24,4 +24,6 @@ pub use parts::Skip;
 pub use parts::Weekdays;
 pub use period::Period;
 pub use period::Stretch;
+pub use source::RuleDays;
+pub use source::RuleSource;
 pub use theorem::rules_say;

@@ -42,7 +42,13 @@ fn unless_after(day: u32) -> Option<u32>
 }
 
 // The least day from `low` on that the rule gives, from period to period and in each from day to day.
-fn search_from<C: Calendar>(calendar: &C, rule: &Rule, start: u32, date: (u32, u8, u8), low: u32) -> Option<u32>
+fn search_from<C: Calendar>(
+    calendar: &C,
+    rule: &Rule,
+    start: u32,
+    date: (u32, u8, u8),
+    low: u32,
+) -> Option<u32>
     requires ranged { ⌜ in-range start ≡ true ⌝ }
     requires dated { ⌜ Stands (C·Sheets .meaning (now calendar)) start (date .0) (date .1) (date .2) ⌝ }
     requires late { ⌜ start ≤ low ⌝ }
@@ -69,4 +75,31 @@ fn search_from<C: Calendar>(calendar: &C, rule: &Rule, start: u32, date: (u32, u
         passed += 1;
     };
     found
+}
+
+// The days that a rule gives over a calendar, from DTSTART on.
+#[derive(Clone, Copy)]
+pub struct RuleDays<'a, C> {
+    pub calendar: &'a C,
+    pub rule: &'a Rule,
+    pub start: u32,
+}
+
+pub impl<'a, C: Calendar> Source for RuleDays<'a, C> as RuleSource {
+    ghost days = { λ s. gives (C·Sheets .meaning (now (s .calendar))) (now (s .rule)) (s .start) };
+
+    ghost ready = { λ s. in-range (s .start) ≡ true };
+
+    fn next(&self, from: u32) -> Option<u32> {
+        let Some(date) = self.calendar.date(self.start) else {
+            return None;
+        };
+        search_from(
+            self.calendar,
+            self.rule,
+            self.start,
+            date,
+            from.max(self.start),
+        )
+    }
 }
