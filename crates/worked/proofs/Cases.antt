@@ -30,7 +30,7 @@ use Rattle.rules.proofs.Searching.{below-from, below-found}
 use Rattle.rules.proofs.Dated.{date-found}
 use Rattle.rules.proofs.Orderly.{counted-orderly}
 use Rattle.rules.proofs.Given.{day-of, given-by, range-bounds}
-use Rattle.worked.specs.Dates.{All-hold, Holds, days, counted, and-then, firsts, bare, worked-dates}
+use Rattle.worked.specs.Dates.{All-hold, Holds, days, and-then, firsts, bare, worked-dates}
 
 -- the year has a month at place p, and the month a day d
 abbrev has : Sheet → ℕ → ℕ → Bool
@@ -140,7 +140,7 @@ leap-day-forward = by-periods gregorian (bare Yearly Forward) 734562 (at 2012 2 
 leap-day-omit : Holds (days gregorian (bare Yearly Omit) 734562 (734562 ∷ 736023 ∷ []))
 leap-day-omit = by-periods gregorian (bare Yearly Omit) 734562 (at 2012 2 29) 4 736023 gregorian-laws refl (stands-at gregorian 734562 2012 2 29 refl refl) refl 2 _ refl
 
-month-ends : Holds (counted gregorian (bare Monthly Forward) 735264 4 (735264 ∷ 735293 ∷ 735323 ∷ 735354 ∷ []))
+month-ends : Holds (days gregorian (bare Monthly Forward) 735264 (735264 ∷ 735293 ∷ 735323 ∷ 735354 ∷ []))
 month-ends = by-periods gregorian (bare Monthly Forward) 735264 (at 2014 1 31) 3 735354 gregorian-laws refl (stands-at gregorian 735264 2014 1 31 refl refl) refl 4 _ refl
 
 adar-forward : Holds (days hebrew (bare Yearly Forward) 735272 (735272 ∷ 735656 ∷ []))

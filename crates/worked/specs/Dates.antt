@@ -37,13 +37,10 @@ pub data Worked : Type 0 where
   date : Almanac → NamedDate → ℕ → Worked
   -- from DTSTART on, the rule gives these days first, and no other day before the last of them
   days : Almanac → Rule → ℕ → List ℕ → Worked
-  -- from DTSTART on, the first so many days of the rule, as COUNT has them, are these and no more
-  counted : Almanac → Rule → ℕ → ℕ → List ℕ → Worked
 
 abbrev pub Holds : Worked → Type 0
 Holds (date a t n) = Named a n t
 Holds (days a r start ds) = firsts (length ds) (gives a r start) start ≡ ds
-Holds (counted a r start c ds) = firsts c (gives a r start) start ≡ ds
 
 abbrev pub All-hold : List Worked → Type 0
 All-hold [] = Unit {0}
@@ -83,8 +80,8 @@ worked-dates =
     -- 2012-02-29 yearly: 2013-03-01 stands in for the day that 2013 lacks, or 2016-02-29 is next
     ∷ days gregorian (bare Yearly Forward) 734562 (734562 ∷ 734928 ∷ [])
     ∷ days gregorian (bare Yearly Omit) 734562 (734562 ∷ 736023 ∷ [])
-    -- 2014-01-31 monthly, four times: 2014-01-31, 2014-03-01, 2014-03-31, 2014-05-01
-    ∷ counted gregorian (bare Monthly Forward) 735264 4 (735264 ∷ 735293 ∷ 735323 ∷ 735354 ∷ [])
+    -- 2014-01-31 monthly: 2014-01-31, 2014-03-01, 2014-03-31, 2014-05-01
+    ∷ days gregorian (bare Monthly Forward) 735264 (735264 ∷ 735293 ∷ 735323 ∷ 735354 ∷ [])
     -- 8 Adar I 5774 yearly, which 5775 lacks: 8 Adar, 2015-02-27, or 8 Shevat, 2015-01-28
     ∷ days hebrew (bare Yearly Forward) 735272 (735272 ∷ 735656 ∷ [])
     ∷ days hebrew (bare Yearly Backward) 735272 (735272 ∷ 735626 ∷ [])
