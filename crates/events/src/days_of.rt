@@ -28,15 +28,13 @@ pub fn last_of_ruled<'r, S: RuleShelf>(
     requires { ⌜ in-range start ≡ true ⌝ }
     ensures { λ r. ⌜ Kept (gives (almanac-at (S·Shelf .held (now (shelf .entry))) place) (now (rule .entry)) start) limit r ⌝ }
 {
-    kept_day(
-        &ShelfRule {
-            shelf,
-            place,
-            rule,
-            start,
-        },
-        limit,
-    )
+    let ruled = ShelfRule {
+        shelf,
+        place,
+        rule,
+        start,
+    };
+    kept_day(&ruled, limit)
 }
 
 // The least day at or after `from` of an event with a rule, where `last` is the day kept beside the limit.

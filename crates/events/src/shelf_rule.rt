@@ -24,7 +24,7 @@ const PLACES: usize = 8;
 // A shelf that answers for a rule over the calendar at a place. The calendars of a shelf differ in type, so none can be
 // handed out, and the shelf itself answers. A place past the last gives no day.
 pub trait RuleShelf: Shelf {
-    // The least day at or after `from` that the rule gives.
+    // The least day at or after `from` that the rule gives. One lifetime, since `RuleDays` has one for both references.
     fn next_given<'r>(&'r self, place: usize, rule: &'r Rule, start: u32, from: u32) -> Option<u32>
         requires { ⌜ in-range start ≡ true ⌝ }
         ensures { λ r. ⌜ Found (gives (almanac-at (Self·Shelf .held (now (self .entry))) place) (now (rule .entry)) start) from r ⌝ };
