@@ -33,7 +33,7 @@ returns g c =
       popped = record {
         some = omega arith;
         least = top_least before g.T.Entry.order xs used x (omega arith) (omega arith) top c.requires.heaped;
-        others = rw is (IsPermutation-trans _ _ _ (rw sub-zero at w.permutation) (pops ws ys n x (omega arith) (w.by-index.1 x ∙ sym c.index-front-0.is) (rw sub-zero at c.sink.ensures.entries)));
+        others = rw is (IsPermutation-trans _ _ _ (rw sub-zero at w.permutation) (pops ws ys n x (omega arith) (w.by_index.1 x ∙ sym c.index-front-0.is) (rw sub-zero at c.sink.ensures.entries)));
       };
       heaped = heaped_same before ys _ n (front_at _ ys n is) (rw long at c.sink.ensures.heaped);
       beyond = drop-append-drop (used - 0) xs put used (omega arith) (omega arith);

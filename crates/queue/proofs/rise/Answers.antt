@@ -10,7 +10,7 @@ loop-j-preserved g c =
     let before = g.T.Entry.before in
     let up = (l.j - 1) / 2 in
     let risen = rises before g.T.Entry.order l.front c.swap.new.self up l.j (length c.args.front.now)
-    (omega arith) (omega arith) (omega arith) w.by-index.0 w.by-index.1 w.by-index.2
+    (omega arith) (omega arith) (omega arith) w.by_index.0 w.by_index.1 w.by_index.2
     (tells before l.front l.j up _ _ c.earlier.result true (omega arith) (omega arith) c.index-front-j.is c.index-front-parent.is c.earlier.ensures c.if-not-earlier.false)
     l.invariant.2 in
     (omega arith, IsPermutation-trans _ _ _ l.invariant.1 w.permutation, risen.0, risen.1)

@@ -8,9 +8,9 @@ loop-j-preserved g c =
     let l = c.loop-j in
     let w = c.swap.ensures in
     let before = g.T.Entry.before in
-    let child = c.earlier-child-child in
+    let child = c.earlier_child-child in
     let sunk = sinks before g.T.Entry.order l.front c.swap.new.self l.j child.result (length c.args.front.now)
-    (omega arith) (omega arith) (omega arith) w.by-index.0 w.by-index.1 w.by-index.2
+    (omega arith) (omega arith) (omega arith) w.by_index.0 w.by_index.1 w.by_index.2
     (tells before l.front child.result l.j _ _ c.earlier.result true (omega arith) (omega arith) c.index-front-child.is c.index-front-j.is c.earlier.ensures c.if-not-earlier.false)
     (λ k d p q r. child.ensures.leads k d p q (omega arith))
     l.invariant.1 in
@@ -20,7 +20,7 @@ pub returns-then-not-earlier : goal.returns-then-not-earlier
 returns-then-not-earlier g c =
     let l = c.loop-j in
     let before = g.T.Entry.before in
-    let child = c.earlier-child-child in
+    let child = c.earlier_child-child in
     let n = length l.front in
     record {
       entries = l.invariant.0;

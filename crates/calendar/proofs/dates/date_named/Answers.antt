@@ -18,8 +18,8 @@ month g c =
     month_of (almanac_at (g.S.Shelf.held c.args.shelf.now) c.args.place) c.args.day c.in-Some.year c.in-Some.month c.in-Some.date
     (c.in-Some.ensures.stands _ _ _ refl)
 
-pub overflow-sub-code : goal.overflow-sub-code
-overflow-sub-code g c = (month g (at·sub-code g c).After-sheet).0
+pub overflow_sub-code : goal.overflow_sub-code
+overflow_sub-code g c = (month g (at·sub-code g c).After-sheet).0
 
 pub bounds-sheet-month : goal.bounds-sheet-month
 bounds-sheet-month g c =

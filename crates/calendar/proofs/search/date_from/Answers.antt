@@ -8,7 +8,7 @@ use Rattle.calendar.proofs.Years.{months_most, from_year}
 use Rattle.calendar.proofs.Dating.{Step, dated_some, earlier_step, later_step}
 use Rattle.calendar.proofs.search.date_from.Given.{Over}
 use Rattle.calendar.proofs.search.date_from.Goals as goal
-use Rattle.calendar.proofs.search.date_from.Goals.{in-Earlier, in-Later, Joined-look, at·returns-in-default, at·loop-sheet-less, at·loop-sheet-again}
+use Rattle.calendar.proofs.search.date_from.Goals.{in-Earlier, in-Later, Joined-look, at·returns-in_default, at·loop-sheet-less, at·loop-sheet-again}
 
 pub look-requires : goal.look-requires
 look-requires g c =
@@ -35,16 +35,16 @@ stepped g c =
           rw w.next-is
           (earlier_step a l n y w.in-Earlier.years f (omega arith)
           (subst (λ (s : Sheet). Seen s n (Earlier w.in-Earlier.years)) c.sheet-sheet.ensures w.in-Earlier.ensures)
-          w.checked-sub-next.result w.checked-sub-next.ensures)
+          w.checked_sub-next.result w.checked_sub-next.ensures)
       | in-Later w ↦
           rw w.next-is
           (later_step a l n y w.in-Later.years f
           (subst (λ (s : Sheet). Seen s n (Later w.in-Later.years)) c.sheet-sheet.ensures w.in-Later.ensures)
-          w.checked-add-next.result w.checked-add-next.ensures)
+          w.checked_add-next.result w.checked_add-next.ensures)
     ]
 
-pub returns-in-default : goal.returns-in-default
-returns-in-default g c = rw c.in-default.is at (stepped g (at·returns-in-default g c).Joined-look)
+pub returns-in_default : goal.returns-in_default
+returns-in_default g c = rw c.in_default.is at (stepped g (at·returns-in_default g c).Joined-look)
 
 pub loop-sheet-smaller : goal.loop-sheet-smaller
 loop-sheet-smaller g c = (rw c.in-Some.is at (stepped g (at·loop-sheet-less g c).Joined-look)).1

@@ -5,18 +5,18 @@ use Rattle.commands.specs.Words.{words}
 use Rattle.commands.proofs.Lines.{words_after_blanks, next_words, within}
 use Rattle.commands.proofs.words.next_word.Goals as goal
 
-pub returns-then-is-empty : goal.returns-then-is-empty
-returns-then-is-empty c =
-    let text = c.skip-blanks-text.result.now in
-    sym (words_after_blanks c.args.line.now) ∙ ap words (sym c.skip-blanks-text.ensures) ∙
-    ap words (nil_from_length text (eqb-true (length text) 0 (sym c.if-is-empty.ensures)))
+pub returns-then-is_empty : goal.returns-then-is_empty
+returns-then-is_empty c =
+    let text = c.skip_blanks-text.result.now in
+    sym (words_after_blanks c.args.line.now) ∙ ap words (sym c.skip_blanks-text.ensures) ∙
+    ap words (nil_from_length text (eqb-true (length text) 0 (sym c.if-is_empty.ensures)))
 
-pub split-at-requires : goal.split-at-requires
-split-at-requires c = omega (arith, within c.skip-blanks-text.result.now)
+pub split_at-requires : goal.split_at-requires
+split_at-requires c = omega (arith, within c.skip_blanks-text.result.now)
 
 pub returns : goal.returns
 returns c =
-    let text = c.skip-blanks-text.result.now in
-    let e = next_words c.args.line.now text c.skip-blanks-text.ensures
-    (λ z. eqb-false (length text) 0 (sym c.if-is-empty.ensures) (ap length z)) in
+    let text = c.skip_blanks-text.result.now in
+    let e = next_words c.args.line.now text c.skip_blanks-text.ensures
+    (λ z. eqb-false (length text) 0 (sym c.if-is_empty.ensures) (ap length z)) in
     cc

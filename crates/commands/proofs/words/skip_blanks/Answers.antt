@@ -4,8 +4,8 @@ use Rattle.std.proofs.lemmas.Bool.Decides.{nat_tests}
 use Rattle.commands.specs.Fronts.{after_blanks}
 use Rattle.commands.proofs.words.skip_blanks.Goals as goal
 
-pub returns-then-not-is-blank : goal.returns-then-not-is-blank
-returns-then-not-is-blank c =
+pub returns-then-not-is_blank : goal.returns-then-not-is_blank
+returns-then-not-is_blank c =
     let e = at_drop_more after_blanks c.args.line.now c.loop-i.i 0 c.loop-i-test.true in
     let f = drop_more c.args.line.now c.loop-i.i 0 c.loop-i-test.true in
     let t = take_rest c.args.line.now c.loop-i.i in

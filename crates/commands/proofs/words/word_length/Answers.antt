@@ -4,8 +4,8 @@ use Rattle.std.proofs.lemmas.Bool.Decides.{nat_tests}
 use Rattle.commands.specs.Fronts.{word_length}
 use Rattle.commands.proofs.words.word_length.Goals as goal
 
-pub returns-then-is-blank : goal.returns-then-is-blank
-returns-then-is-blank c =
+pub returns-then-is_blank : goal.returns-then-is_blank
+returns-then-is_blank c =
     let e = at_drop_more word_length c.args.line.now c.loop-i.i 0 c.loop-i-test.true in
     grind (arith, nat_tests)
 

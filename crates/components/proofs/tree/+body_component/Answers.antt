@@ -5,27 +5,27 @@ use Rattle.components.proofs.Counting.{few, begin_walk, begin_count}
 use Rattle.components.proofs.tree.+body_component.Goals as goal
 use Rattle.components.specs.Events.{events}
 
-pub body-overflow-add-count : goal.body-overflow-add-count
-body-overflow-add-count t c =
-    let e = c.loop-line-test.ensures ∙ ap (λ ls. line_of c.loop-line.lines ∷ ls) (sym c.skip-line.ensures) in
-    let k = begin_count (view c.loop-line.lines) _ _ c.args.depth (text c.value-of.result) e c.if-named.ensures c.value-of.ensures in
+pub body-overflow_add-count : goal.body-overflow_add-count
+body-overflow_add-count t c =
+    let e = c.loop-line-test.ensures ∙ ap (λ ls. line_of c.loop-line.lines ∷ ls) (sym c.skip_line.ensures) in
+    let k = begin_count (view c.loop-line.lines) _ _ c.args.depth (text c.value_of.result) e c.if-named.ensures c.value_of.ensures in
     omega (arith, k, c.in-Some.ensures.counted, few c.args.depth c.loop-line.lines, c.loop-line.invariant.1, few c.args.depth c.args.lines.now)
 
 pub body-loop-line-preserved-in-Some : goal.body-loop-line-preserved-in-Some
 body-loop-line-preserved-in-Some t c =
-    let e = c.loop-line-test.ensures ∙ ap (λ ls. line_of c.loop-line.lines ∷ ls) (sym c.skip-line.ensures) in
-    let w = begin_walk (view c.loop-line.lines) _ _ _ (text c.args.name) (text c.value-of.result) _ e c.if-named.ensures c.value-of.ensures c.in-Some.ensures.left in
-    let k = begin_count (view c.loop-line.lines) _ _ c.args.depth (text c.value-of.result) e c.if-named.ensures c.value-of.ensures in
+    let e = c.loop-line-test.ensures ∙ ap (λ ls. line_of c.loop-line.lines ∷ ls) (sym c.skip_line.ensures) in
+    let w = begin_walk (view c.loop-line.lines) _ _ _ (text c.args.name) (text c.value_of.result) _ e c.if-named.ensures c.value_of.ensures c.in-Some.ensures.left in
+    let k = begin_count (view c.loop-line.lines) _ _ c.args.depth (text c.value_of.result) e c.if-named.ensures c.value_of.ensures in
     (sym w ∙ c.loop-line.invariant.0, omega (arith, k, c.in-Some.ensures.counted), omega (arith, ap length e, c.in-Some.ensures.on))
 
 pub body-returns-in-None : goal.body-returns-in-None
 body-returns-in-None t c =
-    let e = c.loop-line-test.ensures ∙ ap (λ ls. line_of c.loop-line.lines ∷ ls) (sym c.skip-line.ensures) in
-    let w = begin_walk (view c.loop-line.lines) _ _ _ (text c.args.name) (text c.value-of.result) _ e c.if-named.ensures c.value-of.ensures c.in-None.ensures.left in
+    let e = c.loop-line-test.ensures ∙ ap (λ ls. line_of c.loop-line.lines ∷ ls) (sym c.skip_line.ensures) in
+    let w = begin_walk (view c.loop-line.lines) _ _ _ (text c.args.name) (text c.value_of.result) _ e c.if-named.ensures c.value_of.ensures c.in-None.ensures.left in
     record { left = sym w ∙ c.loop-line.invariant.0; on = omega (arith, ap length e, c.in-None.ensures.on); counted = tt }
 
-pub component-overflow-add-result : goal.component-overflow-add-result
-component-overflow-add-result t c = omega (arith, c.in-Some.ensures.counted, few (c.args.depth + 1) c.args.lines.now, c.events-begun.ensures.few)
+pub component-overflow_add-result : goal.component-overflow_add-result
+component-overflow_add-result t c = omega (arith, c.in-Some.ensures.counted, few (c.args.depth + 1) c.args.lines.now, c.events_begun.ensures.few)
 
 pub component-returns-in-Some : goal.component-returns-in-Some
 component-returns-in-Some t c =
@@ -34,7 +34,7 @@ component-returns-in-Some t c =
     record {
       left = c.in-Some.ensures.left ∙ sym (opens c.args.depth (text c.args.name) _ (omega arith));
       on = c.in-Some.ensures.on;
-      counted = omega (arith, k, c.in-Some.ensures.counted, c.events-begun.ensures.value);
+      counted = omega (arith, k, c.in-Some.ensures.counted, c.events_begun.ensures.value);
     }
 
 pub component-returns-in-None : goal.component-returns-in-None

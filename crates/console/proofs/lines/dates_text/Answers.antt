@@ -9,11 +9,11 @@ loop-place-preserved g c =
     let shelf = g.S.Shelf.held c.args.shelf.now in
     let named = at_place shelf c.loop-place.place in
     let name = c.name-name.ensures in
-    let pushed = c.in-ok-push-str.ensures.bytes in
-    let shown = c.as-str.ensures.value in
-    let date = c.in-ok-calendar-text.ensures in
+    let pushed = c.in_ok-push_str.ensures.bytes in
+    let shown = c.as_str.ensures.value in
+    let date = c.in_ok-calendar_text.ensures in
     said_more (λ a. calendar_text a.name) shelf c.args.dates.now c.loop-place.place nothing None (string_bytes c.loop-place.text)
-    (string_bytes c.push-str.new.self) (omega arith) (omega arith) (cc) c.loop-place.invariant
+    (string_bytes c.push_str.new.self) (omega arith) (omega arith) (cc) c.loop-place.invariant
 
 pub returns : goal.returns
 returns g c =

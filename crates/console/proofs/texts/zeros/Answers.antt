@@ -4,4 +4,4 @@ use Rattle.console.proofs.texts.zeros.Goals as goal
 
 pub loop-preserved : goal.loop-preserved
 loop-preserved c =
-    c.in-ok-push-str.ensures.bytes ∙ ap (λ bs. bs ++ 48 ∷ []) c.loop.invariant ∙ replicate_more c.loop.counter 48
+    c.in_ok-push_str.ensures.bytes ∙ ap (λ bs. bs ++ 48 ∷ []) c.loop.invariant ∙ replicate_more c.loop.counter 48

@@ -7,6 +7,6 @@ use Rattle.days.proofs.digits.write_date.Goals as goal
 pub returns : goal.returns
 returns c =
     let ranged : in_range c.args.day ≡ true = search rules in
-    let text : c.date_text.result ≡ date_text c.in-ok-year.year c.in-ok-year.month c.in-ok-year.day =
+    let text : c.date_text.result ≡ date_text c.in_ok-year.year c.in_ok-year.month c.in_ok-year.day =
     search rules in
-    written_some _ _ _ _ _ ranged c.in-ok-year.ensures text
+    written_some _ _ _ _ _ ranged c.in_ok-year.ensures text

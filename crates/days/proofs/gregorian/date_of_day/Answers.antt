@@ -8,4 +8,4 @@ returns-then-day-lt1 c =
 
 pub returns : goal.returns
 returns c =
-    date_of_some _ _ _ _ (record { year = c.year-of-year.ensures; falls = simp (sym c.month_lengths.ensures, sym c.new_year.ensures) c.in-ok-month.ensures })
+    date_of_some _ _ _ _ (record { year = c.year_of-year.ensures; falls = simp (sym c.month_lengths.ensures, sym c.new_year.ensures) c.in_ok-month.ensures })

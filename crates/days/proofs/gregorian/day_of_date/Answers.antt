@@ -4,13 +4,13 @@ use Rattle.days.proofs.Totals.{falls_within}
 use Rattle.days.proofs.Years.{next_year, no_day}
 use Rattle.days.proofs.gregorian.day_of_date.Goals as goal
 
-pub overflow-add-result : goal.overflow-add-result
-overflow-add-result c =
-    let w = falls_within _ _ _ _ (c.in-ok-past.ensures.right c.in-ok-past.past refl) in
+pub overflow_add-result : goal.overflow_add-result
+overflow_add-result c =
+    let w = falls_within _ _ _ _ (c.in_ok-past.ensures.right c.in_ok-past.past refl) in
     let t = ap total c.month_lengths.ensures in
     let x = next_year c.args.year (omega arith) in
     omega arith
 
-pub returns-in-err-past : goal.returns-in-err-past
-returns-in-err-past c =
-    c.from-residual.ensures ∙ no_day _ c.args.year _ _ c.month_lengths.ensures c.in-err-past.ensures
+pub returns-in_err-past : goal.returns-in_err-past
+returns-in_err-past c =
+    c.from_residual.ensures ∙ no_day _ c.args.year _ _ c.month_lengths.ensures c.in_err-past.ensures

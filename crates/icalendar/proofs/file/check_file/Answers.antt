@@ -4,13 +4,13 @@ use Rattle.std.proofs.lemmas.Bool.Decides.{nat_tests}
 use Rattle.icalendar.proofs.Last.{last_asked}
 use Rattle.icalendar.proofs.file.check_file.Goals as goal
 
-pub returns-then-file-gt-MOST-BYTES : goal.returns-then-file-gt-MOST-BYTES
-returns-then-file-gt-MOST-BYTES c = grind (arith, nat_tests)
+pub returns-then-file-gt-MOST_BYTES : goal.returns-then-file-gt-MOST_BYTES
+returns-then-file-gt-MOST_BYTES c = grind (arith, nat_tests)
 
 pub returns-in-Some : goal.returns-in-Some
 returns-in-Some c =
-    last_asked _ _ _ _ _ _ (le-leb (length c.args.file.now) 60000 (omega arith)) (sym c.if-not-well-ended.ensures) (sym c.if-not-all-well-formed.ensures) c.in-Some.ensures
+    last_asked _ _ _ _ _ _ (le-leb (length c.args.file.now) 60000 (omega arith)) (sym c.if-not-well_ended.ensures) (sym c.if-not-all_well_formed.ensures) c.in-Some.ensures
 
 pub returns-in-None : goal.returns-in-None
 returns-in-None c =
-    last_asked _ _ _ _ _ _ (le-leb (length c.args.file.now) 60000 (omega arith)) (sym c.if-not-well-ended.ensures) (sym c.if-not-all-well-formed.ensures) c.in-None.ensures
+    last_asked _ _ _ _ _ _ (le-leb (length c.args.file.now) 60000 (omega arith)) (sym c.if-not-well_ended.ensures) (sym c.if-not-all_well_formed.ensures) c.in-None.ensures

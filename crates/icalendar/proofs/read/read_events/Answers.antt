@@ -10,5 +10,5 @@ loop-lines-preserved g c =
     let shelf = g.S.Shelf.held c.args.shelf.now in
     let so = c.loop-lines.invariant.0 in
     let judge = verdict shelf c.args.number in
-    let e = event_at c.to-event.new.lines in
-    ((so.0 ++ judge e ∷ [], say_next shelf _ _ so.0 c.read-event.result (judge e) c.in-ok-push.ensures.items so.1 c.read-event.ensures, on_to_next judge so.0 _ e _ _ _ c.loop-lines-test.ensures.found (ap (events 2) c.skip-line.ensures) so.2), omega arith)
+    let e = event_at c.to_event.new.lines in
+    ((so.0 ++ judge e ∷ [], say_next shelf _ _ so.0 c.read_event.result (judge e) c.in_ok-push.ensures.items so.1 c.read_event.ensures, on_to_next judge so.0 _ e _ _ _ c.loop-lines-test.ensures.found (ap (events 2) c.skip_line.ensures) so.2), omega arith)

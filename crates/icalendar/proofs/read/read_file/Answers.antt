@@ -1,8 +1,8 @@
 use Rattle.icalendar.proofs.Reading.{small, counted}
 use Rattle.icalendar.proofs.read.read_file.Goals as goal
 
-pub read-events-requires : goal.read-events-requires
-read-events-requires g c = small c.args.file.now c.in-default.field-0 c.in-default.ensures
+pub read_events-requires : goal.read_events-requires
+read_events-requires g c = small c.args.file.now c.in_default.field-0 c.in_default.ensures
 
 pub returns : goal.returns
-returns g c = (counted c.args.file.now c.in-default.field-0 c.in-default.ensures, c.in-ok-read-events.ensures)
+returns g c = (counted c.args.file.now c.in_default.field-0 c.in_default.ensures, c.in_ok-read_events.ensures)

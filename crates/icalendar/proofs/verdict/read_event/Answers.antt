@@ -9,7 +9,7 @@ use Rattle.icalendar.proofs.verdict.read_event.Goals as goal
 pub returns : goal.returns
 returns g c =
     let e = event_at c.args.event in
-    let passes = sym c.in-default.ensures in
+    let passes = sym c.in_default.ensures in
     let there = started e passes in
     let same : there.0 ≡ c.in-Some.start = let a = there.1 in let b = c.in-Some.ensures in cc in
     let ranged = subst (λ (n : ℕ). in_range n ≡ true) same there.2 in
@@ -20,7 +20,7 @@ returns g c =
       ruled = ruled;
       start = refl;
       rdates = c.days_of.ensures;
-      exdates = c.days-of-2.ensures;
+      exdates = c.days_of-2.ensures;
       title = titled (title_of e) c.title_of.result c.title_of.ensures;
       ready = record { ranged = ranged; last = last };
     })

@@ -5,18 +5,18 @@ use Rattle.lines.specs.Property.{name}
 use Rattle.text.specs.Letters.{same}
 use Rattle.lines.proofs.property.named.Goals as goal
 
-pub returns-in-default : goal.returns-in-default
-returns-in-default g c =
+pub returns-in_default : goal.returns-in_default
+returns-in_default g c =
     let e = at_drop_more (λ xs. same xs (name (g.B.Bytes.left c.loop-w.line))) c.args.wanted.now c.loop-w.w-index 0 c.loop-w-test.true in
     grind (arith, nat_tests)
 
-pub returns-then-not-in-name : goal.returns-then-not-in-name
-returns-then-not-in-name g c =
+pub returns-then-not-in_name : goal.returns-then-not-in_name
+returns-then-not-in_name g c =
     let e = at_drop_more (λ xs. same xs (name (g.B.Bytes.left c.loop-w.line))) c.args.wanted.now c.loop-w.w-index 0 c.loop-w-test.true in
     grind (arith, nat_tests)
 
-pub returns-then-not-same-letter : goal.returns-then-not-same-letter
-returns-then-not-same-letter g c =
+pub returns-then-not-same_letter : goal.returns-then-not-same_letter
+returns-then-not-same_letter g c =
     let e = at_drop_more (λ xs. same xs (name (g.B.Bytes.left c.loop-w.line))) c.args.wanted.now c.loop-w.w-index 0 c.loop-w-test.true in
     grind (arith, nat_tests)
 

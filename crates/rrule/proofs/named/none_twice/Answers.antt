@@ -4,11 +4,11 @@ use Rattle.rrule.specs.Named.{none_twice}
 use Rattle.rule_values.proofs.Pieces.{at_first, past_less}
 use Rattle.rrule.proofs.named.none_twice.Goals as goal
 
-pub returns-then-not-skip-past : goal.returns-then-not-skip-past
-returns-then-not-skip-past g c = let e = at_first none_twice 59 (g.B.Bytes.left c.loop-rest.rest) in grind (arith, nat_tests)
+pub returns-then-not-skip_past : goal.returns-then-not-skip_past
+returns-then-not-skip_past g c = let e = at_first none_twice 59 (g.B.Bytes.left c.loop-rest.rest) in grind (arith, nat_tests)
 
-pub returns-then-some-named : goal.returns-then-some-named
-returns-then-some-named g c = let e = at_first none_twice 59 (g.B.Bytes.left c.loop-rest.rest) in grind (arith, nat_tests)
+pub returns-then-some_named : goal.returns-then-some_named
+returns-then-some_named g c = let e = at_first none_twice 59 (g.B.Bytes.left c.loop-rest.rest) in grind (arith, nat_tests)
 
 pub loop-rest-smaller : goal.loop-rest-smaller
 loop-rest-smaller g c = let e = past_less 59 (g.B.Bytes.left c.loop-rest.rest) in grind arith

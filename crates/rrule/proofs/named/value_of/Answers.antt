@@ -7,8 +7,8 @@ use Rattle.rrule.proofs.named.value_of.Goals as goal
 pub returns-then-reads : goal.returns-then-reads
 returns-then-reads g c = let e = at_first (value_of c.args.name.now) 59 (g.B.Bytes.left c.loop-rest.rest) in grind (arith, nat_tests)
 
-pub returns-then-not-skip-past : goal.returns-then-not-skip-past
-returns-then-not-skip-past g c = let e = at_first (value_of c.args.name.now) 59 (g.B.Bytes.left c.loop-rest.rest) in grind (arith, nat_tests)
+pub returns-then-not-skip_past : goal.returns-then-not-skip_past
+returns-then-not-skip_past g c = let e = at_first (value_of c.args.name.now) 59 (g.B.Bytes.left c.loop-rest.rest) in grind (arith, nat_tests)
 
 pub loop-rest-smaller : goal.loop-rest-smaller
 loop-rest-smaller g c = let e = past_less 59 (g.B.Bytes.left c.loop-rest.rest) in grind arith

@@ -15,18 +15,18 @@ returns-then-len g c =
     let e = at_first (stored_from g.row.N g.T.Form.reading c.loop-len.at c.loop-len.len) 44 (g.B.Bytes.left c.loop-len.rest) in
     grind (arith, nat_tests)
 
-pub returns-in-err-at : goal.returns-in-err-at
-returns-in-err-at g c =
+pub returns-in_err-at : goal.returns-in_err-at
+returns-in_err-at g c =
     let s = stored_all g.row.N g.T.Form.reading c.args.filler (pieces 44 (g.B.Bytes.left c.args.text)) in
     let e = at_first (stored_from g.row.N g.T.Form.reading c.loop-len.at c.loop-len.len) 44 (g.B.Bytes.left c.loop-len.rest) in
-    let w = c.in-err-at.was in
+    let w = c.in_err-at.was in
     grind (arith, nat_tests)
 
-pub returns-then-not-skip-past : goal.returns-then-not-skip-past
-returns-then-not-skip-past g c =
+pub returns-then-not-skip_past : goal.returns-then-not-skip_past
+returns-then-not-skip_past g c =
     let s = stored_all g.row.N g.T.Form.reading c.args.filler (pieces 44 (g.B.Bytes.left c.args.text)) in
     let e = at_first (stored_from g.row.N g.T.Form.reading c.loop-len.at c.loop-len.len) 44 (g.B.Bytes.left c.loop-len.rest) in
-    let w = c.in-ok-at.was in
+    let w = c.in_ok-at.was in
     grind (arith, nat_tests)
 
 pub loop-len-smaller : goal.loop-len-smaller
@@ -35,5 +35,5 @@ loop-len-smaller g c = let e = past_less 44 (g.B.Bytes.left c.loop-len.rest) in 
 pub loop-len-preserved : goal.loop-len-preserved
 loop-len-preserved g c =
     let e = at_first (stored_from g.row.N g.T.Form.reading c.loop-len.at c.loop-len.len) 44 (g.B.Bytes.left c.loop-len.rest) in
-    let w = c.in-ok-at.was in
+    let w = c.in_ok-at.was in
     (simp length-set c.loop-len.invariant.0, omega arith, grind (arith, nat_tests))

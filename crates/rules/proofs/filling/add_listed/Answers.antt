@@ -12,8 +12,8 @@ use Rattle.rules.proofs.filling.add_listed.Goals as goal
 pub loop-value-init : goal.loop-value-init
 loop-value-init c = adds_none c.args.slots.now c.args.used 0 _ c.requires.heaped (λ n. and_right (weekday_passes c.args.rule.now n) _ refl)
 
-pub add-value-held-requires : goal.add-value-held-requires
-add-value-held-requires c =
+pub add_value-held-requires : goal.add_value-held-requires
+add_value-held-requires c =
     let few = c.loop-value.invariant.few in
     record {
       room = omega arith;
@@ -31,7 +31,7 @@ loop-value-preserved c =
     (λ n.
     limit_both (weekday_passes r n) (some_of (value_gives r.skip c.args.month n) (take i xs)) _
     ∙ ap (λ (b : Bool). weekday_passes r n && b) (sym (some_more (value_gives r.skip c.args.month n) xs i _ c.loop-value-test.true)))
-    (adds_both _ _ _ _ _ _ i 1 _ _ c.loop-value.invariant c.add-value-held.ensures)
+    (adds_both _ _ _ _ _ _ i 1 _ _ c.loop-value.invariant c.add_value-held.ensures)
 
 pub returns : goal.returns
 returns c =

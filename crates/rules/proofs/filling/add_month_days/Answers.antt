@@ -10,4 +10,4 @@ returns c =
     let r = c.args.rule.now in
     adds_same _ _ _ _ _ 62 _ _ (search rules)
     (λ n. ap (λ (k : ℕ). weekday_passes r n && some_of (value_gives r.skip c.args.month n) (take k r.month_days.at)) (sub-zero r.month_days.len))
-    c.add-listed.ensures
+    c.add_listed.ensures

@@ -8,14 +8,14 @@ pub returns-in-Some : goal.returns-in-Some
 returns-in-Some c =
     let r = c.args.rule.now in
     let d = c.in-Some.day in
-    adds_same c.args.slots.now c.add-if.new.slots c.args.used c.add-if.result 1 1
+    adds_same c.args.slots.now c.add_if.new.slots c.args.used c.add_if.result 1 1
     (λ n. c.weekday_passes.result && eqb n d)
     (λ n. weekday_passes r n && value_gives r.skip c.args.month n c.args.value)
     (omega arith)
     (λ n.
     ap (λ (b : Bool). b && eqb n d) c.weekday_passes.ensures ∙ limit_one (weekday_passes r) n d
     ∙ ap (λ (b : Bool). weekday_passes r n && b) (sym (c.in-Some.ensures n)))
-    c.add-if.ensures
+    c.add_if.ensures
 
 pub returns-in-None : goal.returns-in-None
 returns-in-None c =

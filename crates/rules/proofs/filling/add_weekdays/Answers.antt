@@ -24,8 +24,8 @@ loop-day-init c =
     (λ (t : weekdays_give r m n ≡ false). and_right (ltb n m.from) (weekdays_give r m n) t)
     (cases_Bool (weekdays_give r m n)))
 
-pub add-if-held-requires : goal.add-if-held-requires
-add-if-held-requires c =
+pub add_if-held-requires : goal.add_if-held-requires
+add_if-held-requires c =
     let few = c.loop-day.invariant.few in
     record { room = omega arith; heaped = c.loop-day.invariant.heaped }
 
@@ -38,7 +38,7 @@ loop-day-preserved c =
     adds_same _ _ _ _ (d - m.from + 1) (d + 1 - m.from) _ _ (omega arith)
     (λ n.
     ap (λ (b : Bool). (ltb n d && weekdays_give r m n) || (b && eqb n d)) c.weekdays_give.ensures ∙ below_next (weekdays_give r m) n d)
-    (adds_both _ _ _ _ _ _ (d - m.from) 1 _ _ c.loop-day.invariant c.add-if-held.ensures)
+    (adds_both _ _ _ _ _ _ (d - m.from) 1 _ _ c.loop-day.invariant c.add_if-held.ensures)
 
 pub returns : goal.returns
 returns c =

@@ -3,5 +3,5 @@ use Rattle.rules.specs.Parts.{some_of}
 use Rattle.rules.specs.Meaning.{on_weekday}
 use Rattle.rules.proofs.limits.on_some_weekday.Given as goal
 
-abbrev pub invariant-loop-by-day : goal.invariant-loop-by-day
-invariant-loop-by-day l = some_of (on_weekday l.day) (drop l.by-day-index l.list) ≡ some_of (on_weekday l.day) l.list
+abbrev pub invariant-loop-by_day : goal.invariant-loop-by_day
+invariant-loop-by_day l = some_of (on_weekday l.day) (drop l.by_day-index l.list) ≡ some_of (on_weekday l.day) l.list

@@ -10,8 +10,8 @@ use Rattle.rules.proofs.Sized.{usable}
 use Rattle.rules.proofs.Added.{adds_same}
 use Rattle.rules.proofs.periods.add_period.Goals as goal
 
-pub add-year-requires : goal.add-year-requires
-add-year-requires g c =
+pub add_year-requires : goal.add_year-requires
+add_year-requires g c =
     let a = g.C.Sheets.meaning c.args.calendar.now in
     let l = g.met.C.Sheets.lawful c.args.calendar.now in
     let here = subst (Placed a) c.in-Year.is c.requires.placed in
@@ -22,8 +22,8 @@ add-year-requires g c =
       day = c.requires.dated.has.day_from;
     }
 
-pub add-month-requires : goal.add-month-requires
-add-month-requires g c =
+pub add_month-requires : goal.add_month-requires
+add_month-requires g c =
     let a = g.C.Sheets.meaning c.args.calendar.now in
     let l = g.met.C.Sheets.lawful c.args.calendar.now in
     let here = subst (Placed a) c.in-Month.is c.requires.placed in
@@ -42,10 +42,10 @@ returns-in-Year g c =
     let t = the_date c.args.date in
     adds_same _ _ _ _ 806 806 _ _ (omega arith)
     (λ n.
-    ap (λ (x : MonthCode). year_gives r t x c.sheet.result n) c.own-code-own.ensures
+    ap (λ (x : MonthCode). year_gives r t x c.sheet.result n) c.own_code-own.ensures
     ∙ ap (λ (s : Sheet). year_gives r t (code_at (a.sheet t.year) t.place) s n) c.sheet.ensures
     ∙ sym (ap (λ (p : Period). period_gives a r c.args.start t p n) c.in-Year.is))
-    (c.add-year.ensures t refl)
+    (c.add_year.ensures t refl)
 
 pub returns-in-Month : goal.returns-in-Month
 returns-in-Month g c =
@@ -57,4 +57,4 @@ returns-in-Month g c =
     (λ n.
     ap (λ (s : Sheet). (leb p s.months && code_passes r (code_at s p)) && in_month r t.day (month_at s p) n) c.sheet-in-Month.ensures
     ∙ sym (ap (λ (q : Period). period_gives a r c.args.start t q n) c.in-Month.is))
-    c.add-month.ensures
+    c.add_month.ensures

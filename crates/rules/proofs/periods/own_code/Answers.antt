@@ -4,8 +4,8 @@ use Rattle.calendar.proofs.Years.{months_most}
 use Rattle.calendar.proofs.Naming.{month_of}
 use Rattle.rules.proofs.periods.own_code.Goals as goal
 
-pub code-here-requires : goal.code-here-requires
-code-here-requires g c =
+pub code_here-requires : goal.code_here-requires
+code_here-requires g c =
     let a = g.C.Sheets.meaning c.args.calendar.now in
     let y = c.args.date.0 in
     let m = month_of a c.args.start y c.args.date.1 c.args.date.2 c.requires in

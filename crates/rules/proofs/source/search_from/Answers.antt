@@ -5,28 +5,28 @@ use Rattle.rules.specs.Onward.{reachable, the_date}
 use Rattle.rules.proofs.Finding.{left_first, left_less, left_least, left_none, in_reach_placed, which_few, reached_next, over_found, last_found, day_found}
 use Rattle.rules.proofs.source.search_from.Given.{Over}
 use Rattle.rules.proofs.source.search_from.Goals as goal
-use Rattle.rules.proofs.source.search_from.Goals.{Else-not-in-reach, at·add-period-used-requires, at·add-passed, at·search-less}
+use Rattle.rules.proofs.source.search_from.Goals.{Else-not-in_reach, at·add_period-used-requires, at·add-passed, at·search-less}
 
 -- the period is in reach
-reached : (g : Over) (c : Else-not-in-reach g) → reachable (g.C.Sheets.meaning c.args.calendar.now) c.search.period ≡ true
-reached g c = sym c.in-reach.ensures ∙ c.if-not-in-reach.false
+reached : (g : Over) (c : Else-not-in_reach g) → reachable (g.C.Sheets.meaning c.args.calendar.now) c.search.period ≡ true
+reached g c = sym c.in_reach.ensures ∙ c.if-not-in_reach.false
 
 -- so few periods have been passed
-few : (g : Over) (c : Else-not-in-reach g) → c.search.passed ≤ 804000
+few : (g : Over) (c : Else-not-in_reach g) → c.search.passed ≤ 804000
 few g c =
     let l = g.met.C.Sheets.lawful c.args.calendar.now in
     let w = which_few _ l c.args.rule.now c.args.start (the_date c.args.date) c.requires.ranged c.requires.dated c.args.low c.requires.late c.search.period c.search.invariant.1 (reached g c) in
     let p = c.search.invariant.2 in
     omega arith
 
-pub add-period-used-requires : goal.add-period-used-requires
-add-period-used-requires g c =
+pub add_period-used-requires : goal.add_period-used-requires
+add_period-used-requires g c =
     let l = g.met.C.Sheets.lawful c.args.calendar.now in
     let long = c.search.invariant.0 in
     record {
       room = omega arith;
       dated = c.requires.dated;
-      placed = in_reach_placed _ l c.args.rule.now c.args.start (the_date c.args.date) c.requires.ranged c.requires.dated c.args.low c.requires.late c.search.period c.search.invariant.1 (reached g (at·add-period-used-requires g c).Else-not-in-reach);
+      placed = in_reach_placed _ l c.args.rule.now c.args.start (the_date c.args.date) c.requires.ranged c.requires.dated c.args.low c.requires.late c.search.period c.search.invariant.1 (reached g (at·add_period-used-requires g c).Else-not-in_reach);
     }
 
 pub loop-day-preserved : goal.loop-day-preserved
@@ -37,11 +37,11 @@ loop-day-preserved g c =
       left_less c.loop-day.slots c.pop.new.slots c.loop-day.used c.in-Some.day _ c.args.low c.loop-day.invariant.2 c.in-Some.ensures.popped c.in-Some.ensures.heaped c.if-day-low.false,
     )
 
-pub overflow-add-passed : goal.overflow-add-passed
-overflow-add-passed g c = let p = few g (at·add-passed g c).Else-not-in-reach in search rules
+pub overflow_add-passed : goal.overflow_add-passed
+overflow_add-passed g c = let p = few g (at·add-passed g c).Else-not-in_reach in search rules
 
 pub search-smaller : goal.search-smaller
-search-smaller g c = let p = few g (at·search-less g c).Else-not-in-reach in search rules
+search-smaller g c = let p = few g (at·search-less g c).Else-not-in_reach in search rules
 
 pub search-preserved : goal.search-preserved
 search-preserved g c =
@@ -50,16 +50,16 @@ search-preserved g c =
     let p = c.search.invariant.2 in
     let next =
     reached_next _ l c.args.rule.now c.args.start (the_date c.args.date) c.requires.ranged c.requires.dated c.args.low c.requires.late c.search.period x
-    (left_none c.loop-day.slots c.loop-day.used _ c.args.low c.loop-day.invariant.2 c.in-default.ensures.popped.0)
-    c.in-Some-next-period.next
-    (c.in-Some-next-period.ensures c.args.rule.now c.args.start (the_date c.args.date) c.args.low x.which c.requires.ranged c.requires.dated refl x.counts) in
+    (left_none c.loop-day.slots c.loop-day.used _ c.args.low c.loop-day.invariant.2 c.in_default.ensures.popped.0)
+    c.in-Some-next_period.next
+    (c.in-Some-next_period.ensures c.args.rule.now c.args.start (the_date c.args.date) c.args.low x.which c.requires.ranged c.requires.dated refl x.counts) in
     (search rules, next.0, omega (arith, next.1))
 
-pub returns-then-not-in-reach : goal.returns-then-not-in-reach
-returns-then-not-in-reach g c =
+pub returns-then-not-in_reach : goal.returns-then-not-in_reach
+returns-then-not-in_reach g c =
     let l = g.met.C.Sheets.lawful c.args.calendar.now in
     over_found _ l c.args.rule.now c.args.start (the_date c.args.date) c.requires.ranged c.requires.dated c.args.low c.requires.late c.search.period c.search.invariant.1
-    (sym c.in-reach.ensures ∙ c.if-not-in-reach.true)
+    (sym c.in_reach.ensures ∙ c.if-not-in_reach.true)
 
 pub returns-then-day-low : goal.returns-then-day-low
 returns-then-day-low g c =
@@ -68,13 +68,13 @@ returns-then-day-low g c =
     let r = c.args.rule.now in
     let t = the_date c.args.date in
     let d = left_least c.loop-day.slots c.pop.new.slots c.loop-day.used c.in-Some.day (period_gives a r c.args.start t c.search.period) c.args.low c.loop-day.invariant.2 c.in-Some.ensures.popped in
-    subst (λ (o : Option ℕ). Found (gives a r c.args.start) c.args.low o) (sym c.unless-after-found.ensures)
+    subst (λ (o : Option ℕ). Found (gives a r c.args.start) c.args.low o) (sym c.unless_after-found.ensures)
     (day_found a l r c.args.start t c.requires.ranged c.requires.dated c.args.low c.requires.late c.search.period c.search.invariant.1 c.in-Some.day d.0 c.if-day-low.true d.1)
 
-pub returns-in-default-next-period : goal.returns-in-default-next-period
-returns-in-default-next-period g c =
+pub returns-in_default-next_period : goal.returns-in_default-next_period
+returns-in_default-next_period g c =
     let l = g.met.C.Sheets.lawful c.args.calendar.now in
     let x = c.search.invariant.1 in
     last_found _ l c.args.rule.now c.args.start (the_date c.args.date) c.requires.ranged c.requires.dated c.args.low c.requires.late c.search.period x
-    (left_none c.loop-day.slots c.loop-day.used _ c.args.low c.loop-day.invariant.2 c.in-default.ensures.popped.0)
-    (c.in-default-next-period.ensures c.args.rule.now c.args.start (the_date c.args.date) c.args.low x.which c.requires.ranged c.requires.dated refl x.counts)
+    (left_none c.loop-day.slots c.loop-day.used _ c.args.low c.loop-day.invariant.2 c.in_default.ensures.popped.0)
+    (c.in_default-next_period.ensures c.args.rule.now c.args.start (the_date c.args.date) c.args.low x.which c.requires.ranged c.requires.dated refl x.counts)

@@ -3,11 +3,11 @@ use Rattle.rules.proofs.steps.first_period.Goals as goal
 
 pub returns-in-Yearly : goal.returns-in-Yearly
 returns-in-Yearly g c =
-    year_reached _ _ _ _ _ (g.met.C.Sheets.lawful c.args.calendar.now) c.requires.ranged c.requires.dated c.in-Yearly.is _ _ c.from-interval.ensures c.first-year.ensures
+    year_reached _ _ _ _ _ (g.met.C.Sheets.lawful c.args.calendar.now) c.requires.ranged c.requires.dated c.in-Yearly.is _ _ c.from-interval.ensures c.first_year.ensures
 
 pub returns-in-Weekly : goal.returns-in-Weekly
 returns-in-Weekly g c =
-    week_reached _ _ _ _ _ c.in-Weekly.is _ _ _ c.from-interval.ensures c.week-of-week.ensures c.last-counted.ensures
+    week_reached _ _ _ _ _ c.in-Weekly.is _ _ _ c.from-interval.ensures c.week_of-week.ensures c.last_counted.ensures
 
 pub returns-in-Daily : goal.returns-in-Daily
-returns-in-Daily g c = day_reached _ _ _ _ _ c.in-Daily.is _ _ c.from-interval.ensures c.last-counted-in-Daily.ensures
+returns-in-Daily g c = day_reached _ _ _ _ _ c.in-Daily.is _ _ c.from-interval.ensures c.last_counted-in-Daily.ensures

@@ -3,10 +3,10 @@ use Rattle.calendar.specs.Sheets.{Answered}
 use Rattle.calendar.proofs.Years.{months_most}
 use Rattle.rules.proofs.Stepping.{same_year, next_year, none_further}
 use Rattle.rules.proofs.steps.months_on.Goals as goal
-use Rattle.rules.proofs.steps.months_on.Goals.{then-place-months, else-place-months+in-ok-year}
+use Rattle.rules.proofs.steps.months_on.Goals.{then-place-months, else-place-months+in_ok-year}
 
-pub overflow-add-place : goal.overflow-add-place
-overflow-add-place g c =
+pub overflow_add-place : goal.overflow_add-place
+overflow_add-place g c =
     let few = months_most _ (g.met.C.Sheets.lawful c.args.calendar.now) c.loop-i.year in
     let e = c.loop-i.invariant.1 in
     search rules
@@ -18,8 +18,8 @@ returns-then-months-eq0 g c =
     let none : Answered a c.loop-i.year → ⊥ = (λ h. omega arith) in
     none_further a _ (c.loop-i.year, c.loop-i.place) c.loop-i.-i c.loop-i.invariant.0 c.args.count (omega arith) none
 
-pub returns-in-err-year : goal.returns-in-err-year
-returns-in-err-year g c =
+pub returns-in_err-year : goal.returns-in_err-year
+returns-in_err-year g c =
     let a = g.C.Sheets.meaning c.args.calendar.now in
     let y = c.loop-i.year in
     let i = c.loop-i.-i in
@@ -28,8 +28,8 @@ returns-in-err-year g c =
     let none : Answered a (y + 1) → ⊥ =
     (λ h.
     let few = (g.met.C.Sheets.lawful c.args.calendar.now).numbered (y + 1) h in
-    c.in-err-year.ensures (omega arith)) in
-    rw c.from-residual.ensures (none_further a _ (y + 1, 1) (i + 1) (sym next) c.args.count (omega arith) none)
+    c.in_err-year.ensures (omega arith)) in
+    rw c.from_residual.ensures (none_further a _ (y + 1, 1) (i + 1) (sym next) c.args.count (omega arith) none)
 
 pub loop-i-preserved : goal.loop-i-preserved
 loop-i-preserved g c =
@@ -40,8 +40,8 @@ loop-i-preserved g c =
     let e = c.loop-i.invariant.1 in
     elim c.if-place-months.branch [
       | then-place-months w ↦ let next = same_year a m here c.loop-i.-i at (omega arith) in (cc, cc)
-      | else-place-months+in-ok-year w ↦
+      | else-place-months+in_ok-year w ↦
           let next = next_year a m here c.loop-i.-i at (omega arith) in
-          let later = w.in-ok-year.ensures.1 in
+          let later = w.in_ok-year.ensures.1 in
           (cc, cc)
     ]

@@ -15,9 +15,9 @@ loop-day-preserved g c =
     let low = c.loop-day.auto.day in
     let w : ℕ → Bool = week_gives a r c.args.start b in
     let on : (leb b d && ltb d (b + 7)) ≡ true = and_from (leb b d) (ltb d (b + 7)) (le-leb b d (omega arith)) (lt-ltb d (b + 7) (omega arith)) in
-    let keeps : c.week-keeps.result ≡ w d =
-    c.week-keeps.ensures
+    let keeps : c.week_keeps.result ≡ w d =
+    c.week_keeps.ensures
     ∙ sym (ap (λ (x : Bool). x && (cond (no_items (by_day r)) (eqb (d % 7) (c.args.start % 7)) (weekday_passes r d) && (no_items (by_month r) || date_passes a r (date_of a d)))) on) in
     adds_same _ _ _ _ (d - b + 1) (d + 1 - b) _ _ (omega arith)
     (λ n. ap (λ (x : Bool). (ltb n d && w n) || (x && eqb n d)) keeps ∙ below_next w n d)
-    (adds_both _ _ _ _ _ _ (d - b) 1 _ _ c.loop-day.invariant c.add-if-held.ensures)
+    (adds_both _ _ _ _ _ _ (d - b) 1 _ _ c.loop-day.invariant c.add_if-held.ensures)

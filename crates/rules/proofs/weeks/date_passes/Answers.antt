@@ -7,8 +7,8 @@ use Rattle.rules.specs.Meaning.{month_at, code_passes, value_passes, date_passes
 use Rattle.rules.proofs.Dated.{dated_is}
 use Rattle.rules.proofs.weeks.date_passes.Goals as goal
 
-pub passes-in-requires : goal.passes-in-requires
-passes-in-requires g c =
+pub passes_in-requires : goal.passes_in-requires
+passes_in-requires g c =
     let a = g.C.Sheets.meaning c.args.calendar.now in
     let l = g.met.C.Sheets.lawful c.args.calendar.now in
     let y = c.in-Some.year in
@@ -24,7 +24,7 @@ returns-in-Some g c =
     let r = c.args.rule.now in
     let p = c.in-Some.place in
     let d = c.in-Some.date in
-    c.passes-in.ensures
+    c.passes_in.ensures
     ∙ ap (λ (s : Sheet). code_passes r (code_at s p) && value_passes r d (month_at s p).size) c.sheet.ensures
     ∙ sym (ap (date_passes a r) (dated_is a l c.args.day (Some (c.in-Some.year, p, d)) c.in-Some.ensures))
 

@@ -16,6 +16,6 @@ returns c =
     let passes : code_passes r (code_at s p) ≡ true = search rules in
     adds_same _ _ _ _ 62 62 _ _ (omega arith)
     (λ n.
-    ap (λ (m : Stretch). in_month r c.args.day m n) c.month-stretch.ensures
+    ap (λ (m : Stretch). in_month r c.args.day m n) c.month_stretch.ensures
     ∙ ap (λ (b : Bool). b && in_month r c.args.day (month_at s p) n) (sym (ap (λ (b : Bool). b && code_passes r (code_at s p)) here ∙ passes)))
-    c.add-in-month.ensures
+    c.add_in_month.ensures

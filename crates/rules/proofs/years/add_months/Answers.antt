@@ -13,7 +13,7 @@ loop-i-preserved c =
     let f : ℕ → ℕ → Bool = λ n j. taken r c.args.own s (j + 1) && in_month r c.args.day (month_at s (j + 1)) n in
     adds_same _ _ _ _ (62 * i + 62) (62 * (i + 1)) _ _ (omega arith)
     (λ n. or_comm (some_below (f n) i) (f n i) ∙ ap (some_below (f n)) (sym (add-one i)))
-    (adds_both _ _ _ _ _ _ (62 * i) 62 _ _ c.loop-i.invariant c.add-taken-held.ensures)
+    (adds_both _ _ _ _ _ _ (62 * i) 62 _ _ c.loop-i.invariant c.add_taken-held.ensures)
 
 pub returns : goal.returns
 returns c =

@@ -11,6 +11,6 @@ returns c =
     let m = month_at c.args.sheet.now c.args.place in
     adds_same _ _ _ _ 62 62 _ _ (omega arith)
     (λ n.
-    ap (λ (x : Stretch). in_month r c.args.day x n) c.month-stretch.ensures
-    ∙ ap (λ (b : Bool). b && in_month r c.args.day m n) (sym (sym c.takes-month.ensures ∙ c.if-not-takes-month.false)))
-    c.add-in-month.ensures
+    ap (λ (x : Stretch). in_month r c.args.day x n) c.month_stretch.ensures
+    ∙ ap (λ (b : Bool). b && in_month r c.args.day m n) (sym (sym c.takes_month.ensures ∙ c.if-not-takes_month.false)))
+    c.add_in_month.ensures

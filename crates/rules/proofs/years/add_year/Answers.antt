@@ -6,23 +6,23 @@ use Rattle.rules.proofs.Added.{adds_same}
 use Rattle.rules.proofs.Whole.{year_by_months, year_by_weekdays}
 use Rattle.rules.proofs.years.add_year.Goals as goal
 
-pub returns-then-weekdays-alone : goal.returns-then-weekdays-alone
-returns-then-weekdays-alone c t e =
+pub returns-then-weekdays_alone : goal.returns-then-weekdays_alone
+returns-then-weekdays_alone c t e =
     let r = c.args.rule.now in
     let s = c.args.sheet.now in
-    let size : c.year-stretch.result.size ≤ 806 = omega (arith, ap (λ (m : Stretch). m.size) c.year-stretch.ensures, c.requires.sheet.year) in
-    adds_same _ _ _ _ c.year-stretch.result.size 806 _ _ size
+    let size : c.year_stretch.result.size ≤ 806 = omega (arith, ap (λ (m : Stretch). m.size) c.year_stretch.ensures, c.requires.sheet.year) in
+    adds_same _ _ _ _ c.year_stretch.result.size 806 _ _ size
     (λ n.
-    ap (λ (m : Stretch). weekdays_give r m n) c.year-stretch.ensures
-    ∙ sym (year_by_weekdays r t c.args.own s n (sym c.weekdays-alone.ensures ∙ c.if-weekdays-alone.true)))
-    c.add-weekdays.ensures
+    ap (λ (m : Stretch). weekdays_give r m n) c.year_stretch.ensures
+    ∙ sym (year_by_weekdays r t c.args.own s n (sym c.weekdays_alone.ensures ∙ c.if-weekdays_alone.true)))
+    c.add_weekdays.ensures
 
-pub returns-else-weekdays-alone : goal.returns-else-weekdays-alone
-returns-else-weekdays-alone c t e =
+pub returns-else-weekdays_alone : goal.returns-else-weekdays_alone
+returns-else-weekdays_alone c t e =
     let r = c.args.rule.now in
     let s = c.args.sheet.now in
     adds_same _ _ _ _ 806 806 _ _ (omega arith)
     (λ n.
     ap (λ (d : ℕ). some_month s (λ p. taken r c.args.own s p && in_month r d (month_at s p) n)) (sym e)
-    ∙ sym (year_by_months r t c.args.own s n (sym c.weekdays-alone.ensures ∙ c.if-weekdays-alone.false)))
-    c.add-months.ensures
+    ∙ sym (year_by_months r t c.args.own s n (sym c.weekdays_alone.ensures ∙ c.if-weekdays_alone.false)))
+    c.add_months.ensures

@@ -5,8 +5,8 @@ use Rattle.series.proofs.days_of.next_day.Goals as goal
 
 pub returns-in-Some : goal.returns-in-Some
 returns-in-Some g c =
-    found_of (g.S.Shelf.held c.args.shelf.now) c.args.series.now c.args.from c.next-of-ruled.result _ _ _ (ap ruled_in c.in-Some.is) c.entries-rdates.ensures c.entries-exdates.ensures c.next-of-ruled.ensures
+    found_of (g.S.Shelf.held c.args.shelf.now) c.args.series.now c.args.from c.next_of_ruled.result _ _ _ (ap ruled_in c.in-Some.is) c.entries-rdates.ensures c.entries-exdates.ensures c.next_of_ruled.ensures
 
 pub returns-in-None : goal.returns-in-None
 returns-in-None g c =
-    found_of (g.S.Shelf.held c.args.shelf.now) c.args.series.now c.args.from c.next-of-unruled.result _ _ _ (ap ruled_in c.in-None.is) c.entries-rdates.ensures c.entries-exdates.ensures c.next-of-unruled.ensures
+    found_of (g.S.Shelf.held c.args.shelf.now) c.args.series.now c.args.from c.next_of_unruled.result _ _ _ (ap ruled_in c.in-None.is) c.entries-rdates.ensures c.entries-exdates.ensures c.next_of_unruled.ensures

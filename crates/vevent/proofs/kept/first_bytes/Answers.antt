@@ -11,4 +11,4 @@ loop-b-preserved g c =
 pub returns : goal.returns
 returns g c =
     let so = c.loop-b.invariant in
-    subst (Holds g.row.N 0 c.loop-b.bytes.at c.loop-b.bytes.len) (all_in g.row.N so.0 _ so.1.fits c.in-default.ensures.read ∙ so.2) so.1
+    subst (Holds g.row.N 0 c.loop-b.bytes.at c.loop-b.bytes.len) (all_in g.row.N so.0 _ so.1.fits c.in_default.ensures.read ∙ so.2) so.1

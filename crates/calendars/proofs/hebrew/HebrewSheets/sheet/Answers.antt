@@ -7,7 +7,7 @@ use Rattle.calendars.proofs.hebrew.HebrewSheets.sheet.Goals as goal
 pub returns-then-contains : goal.returns-then-contains
 returns-then-contains c =
     let h = c.if-contains.ensures.cases in
-    c.year-sheet.ensures ∙ sym (as_reckoned hebrew_year c.args.year (hebrew_laws.answers c.args.year (omega (arith, h.0)) (omega (arith, h.1))))
+    c.year_sheet.ensures ∙ sym (as_reckoned hebrew_year c.args.year (hebrew_laws.answers c.args.year (omega (arith, h.0)) (omega (arith, h.1))))
 
 pub returns-else-contains : goal.returns-else-contains
 returns-else-contains c =

@@ -4,25 +4,25 @@ use Rattle.lines.specs.Lines.{split, lines, Rest}
 use Rattle.lines.proofs.Folds.{past_fold, past_byte, past_end, within, within_end}
 use Rattle.lines.proofs.cursor.Cursor.skip_line.Goals as goal
 
-pub loop-at-preserved-then-folds-at : goal.loop-at-preserved-then-folds-at
-loop-at-preserved-then-folds-at c =
-    let e = sym c.if-folds-at.ensures in
+pub loop-at-preserved-then-folds_at : goal.loop-at-preserved-then-folds_at
+loop-at-preserved-then-folds_at c =
+    let e = sym c.if-folds_at.ensures in
     let w = within c.loop-at.self.bytes.now c.loop-at.at e in
     (ap (λ (r : Rest). r.later) (sym (past_fold c.loop-at.place c.loop-at.self.bytes.now c.loop-at.at e)) ∙ c.loop-at.invariant.0, w, omega arith)
 
-pub invariant-of-self : goal.invariant-of-self
-invariant-of-self c =
-    let w = within_end c.loop-at.self.bytes.now c.loop-at.at (sym c.if-ends-at.ensures) in
+pub invariant_of-self : goal.invariant_of-self
+invariant_of-self c =
+    let w = within_end c.loop-at.self.bytes.now c.loop-at.at (sym c.if-ends_at.ensures) in
     (w, (c.loop-at.self.small, (omega arith, tt)))
 
-pub returns-then-ends-at : goal.returns-then-ends-at
-returns-then-ends-at c =
-    sym (ap (λ (r : Rest). r.later) (past_end c.loop-at.place c.loop-at.self.bytes.now c.loop-at.at (sym c.if-ends-at.ensures) (sym c.if-folds-at.ensures))) ∙ c.loop-at.invariant.0
+pub returns-then-ends_at : goal.returns-then-ends_at
+returns-then-ends_at c =
+    sym (ap (λ (r : Rest). r.later) (past_end c.loop-at.place c.loop-at.self.bytes.now c.loop-at.at (sym c.if-ends_at.ensures) (sym c.if-folds_at.ensures))) ∙ c.loop-at.invariant.0
 
 pub loop-at-preserved : goal.loop-at-preserved
 loop-at-preserved c =
     let h = c.loop-at-test.true in
-    (ap (λ (r : Rest). r.later) (sym (past_byte c.loop-at.place c.loop-at.self.bytes.now c.loop-at.at h (sym c.if-ends-at.ensures))) ∙ c.loop-at.invariant.0, omega arith, omega arith)
+    (ap (λ (r : Rest). r.later) (sym (past_byte c.loop-at.place c.loop-at.self.bytes.now c.loop-at.at h (sym c.if-ends_at.ensures))) ∙ c.loop-at.invariant.0, omega arith, omega arith)
 
 pub returns : goal.returns
 returns c =

@@ -7,4 +7,4 @@ use Rattle.rules.proofs.checked.Rule.has_month_days.Goals as goal
 pub returns : goal.returns
 returns c =
     let list = c.args.self.now.month_days in
-    ap not (c.is-empty.ensures ∙ empty_items _ ∙ ap (λ (k : ℕ). no_items (take k list.at)) (sub-zero list.len))
+    ap not (c.is_empty.ensures ∙ empty_items _ ∙ ap (λ (k : ℕ). no_items (take k list.at)) (sub-zero list.len))

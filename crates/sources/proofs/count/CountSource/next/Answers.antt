@@ -8,5 +8,5 @@ pub returns : goal.returns
 returns g c =
     let s = c.args.self.now in
     let set = g.S.Source.days s.inner in
-    let last = subst (LastOf set s.n) c.in-ok-last.was c.requires.1 in
-    found_same _ _ (first_until set s.n c.in-ok-last.last last) c.args.from c.next.result c.next.ensures
+    let last = subst (LastOf set s.n) c.in_ok-last.was c.requires.1 in
+    found_same _ _ (first_until set s.n c.in_ok-last.last last) c.args.from c.next.result c.next.ensures

@@ -18,14 +18,14 @@ returns-then-at-self c =
     let e = ap (λ (r : Rest). r.text) (sym c.loop-at.invariant.0 ∙ at_drop_all (split c.loop-at.place) c.args.self.now.bytes.now c.loop-at.at (omega arith)) in
     record { read = e; ended = e }
 
-pub returns-then-ends-at : goal.returns-then-ends-at
-returns-then-ends-at c =
-    let e = ap (λ (r : Rest). r.text) (sym c.loop-at.invariant.0 ∙ past_end c.loop-at.place c.args.self.now.bytes.now c.loop-at.at (sym c.if-ends-at.ensures) (sym c.loop-at-test.ensures)) in
+pub returns-then-ends_at : goal.returns-then-ends_at
+returns-then-ends_at c =
+    let e = ap (λ (r : Rest). r.text) (sym c.loop-at.invariant.0 ∙ past_end c.loop-at.place c.args.self.now.bytes.now c.loop-at.at (sym c.if-ends_at.ensures) (sym c.loop-at-test.ensures)) in
     record { read = e; ended = e }
 
 pub returns : goal.returns
 returns c =
     record {
-      read = ap (λ (r : Rest). r.text) (sym c.loop-at.invariant.0 ∙ past_byte c.loop-at.place c.args.self.now.bytes.now c.loop-at.at (omega arith) (sym c.if-ends-at.ensures));
+      read = ap (λ (r : Rest). r.text) (sym c.loop-at.invariant.0 ∙ past_byte c.loop-at.place c.args.self.now.bytes.now c.loop-at.at (omega arith) (sym c.if-ends_at.ensures));
       ended = tt;
     }
