@@ -1,13 +1,12 @@
 -- The search for a day's date: how far a guess may go on or back, that it comes nearer, and when there is no date.
-use Rattle.std.proofs.Common.{◌≡◌, ℕ, ◌+◌, ◌-◌, ◌*◌, ◌/◌, ◌^◌, ◌<◌, ◌≤◌, max, cond, eqb, ltb, Some, None, Option, sym, refl, ap, subst, ⊎_elim, arith}
+use Rattle.std.proofs.Common.{◌≡◌, ℕ, ◌+◌, ◌-◌, ◌^◌, ◌<◌, ◌≤◌, cond, eqb, ltb, Some, None, Option, ap, subst, ⊎_elim, arith}
 use Rattle.std.proofs.lemmas.Bool.{cases_lt, lt-ltb, le-ltb, eq-eqb, ne_eqb, cond-true, cond-false}
-use Rattle.days.specs.Months.{Falls, Placed}
-use Rattle.calendar.specs.Sheets.{Almanac, Answered, Within, Stands, Dated, lengths_of, days_of}
+use Rattle.calendar.specs.Sheets.{Almanac, Answered, Stands, Dated, days_of}
 use Rattle.calendar.specs.Laws.{Lawful}
 use Rattle.calendar.specs.Search.{Seen}
 use Rattle.calendar.specs.declared.search.Sight.TheVariants.{Earlier, Later}
 use Rattle.std.specs.Option.{SomeIff}
-use Rattle.calendar.proofs.Years.{stands_within, from_year, between, apart_by, after_end, one_date}
+use Rattle.calendar.proofs.Years.{stands_within, between, apart_by, after_end, one_date}
 
 -- the year y may be on the way to the date of the day n, if n has one
 abbrev pub Open : Almanac → ℕ → ℕ → Type 0

@@ -1,13 +1,13 @@
 -- The consequences of the laws.
-use Rattle.std.proofs.Common.{◌≡◌, ℕ, ◌+◌, ◌-◌, ◌<◌, ◌≤◌, length, take, Some, None, sym, refl, ap, ◌∙◌, subst, ⊎_elim, arith, lit≤, length-take}
+use Rattle.std.proofs.Common.{◌≡◌, ℕ, ◌+◌, ◌-◌, ◌<◌, ◌≤◌, length, take, sym, ap, ◌∙◌, subst, ⊎_elim, arith, lit≤, length-take}
 use Rattle.std.proofs.lemmas.List.{take_all}
-use Rattle.days.specs.Months.{Falls, Has, Placed, total, before, length_at}
-use Rattle.days.proofs.Totals.{before_next, falls_within, falls_somewhere}
-use Rattle.calendar.specs.Sheets.{Almanac, Answered, Within, Stands, Dated, lengths_of, days_of}
+use Rattle.days.specs.Months.{Has, total, before, length_at}
+use Rattle.days.proofs.Totals.{before_next, falls_somewhere}
+use Rattle.calendar.specs.Sheets.{Almanac, Answered, Stands, lengths_of}
 use Rattle.calendar.specs.Laws.{Lawful, Covered}
 use Rattle.calendar.specs.Consequences.{OneDate, FromTheLaws, ShutOut}
-use Rattle.calendar.proofs.Years.{stands_within, in_year, from_year, one_date}
-use Rattle.calendar.proofs.Naming.{sound_lawful, month_of}
+use Rattle.calendar.proofs.Years.{stands_within, from_year, one_date}
+use Rattle.calendar.proofs.Naming.{sound_lawful}
 
 module _ (a : Almanac) (l : Lawful a) where
   -- a year has the months that its sheet says

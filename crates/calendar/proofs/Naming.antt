@@ -1,14 +1,14 @@
 -- Dates by the codes of their months, in any calendar of a lawful shelf.
-use Rattle.std.proofs.Common.{◌≡◌, ℕ, ◌+◌, ◌-◌, ◌<◌, ◌≤◌, cond, eqb, List, [], ◌∷◌, length, take, Some, None, Option, sym, refl, ap, ◌∙◌, subst, ⊎_elim, arith, length-take}
-use Rattle.std.proofs.lemmas.Bool.{cond_both, cases_lt}
-use Rattle.days.specs.Months.{Has, Falls, Counted}
+use Rattle.std.proofs.Common.{◌≡◌, ℕ, ◌+◌, ◌-◌, ◌≤◌, eqb, List, [], ◌∷◌, Some, None, refl, ap, subst, arith, length-take}
+use Rattle.std.proofs.lemmas.Bool.{cond_both}
+use Rattle.days.specs.Months.{Falls, Counted}
 use Rattle.calendar.specs.declared.sheet.MonthCode.{MonthCode}
 use Rattle.calendar.specs.declared.dates.NamedDate.{NamedDate}
-use Rattle.calendar.specs.Sheets.{Almanac, Answered, Stands, Dated, lengths_of, code_at}
+use Rattle.calendar.specs.Sheets.{Almanac, Stands, Dated, lengths_of, code_at}
 use Rattle.calendar.specs.Laws.{Lawful}
 use Rattle.calendar.specs.Dates.{BearsCode, CodeFound, Named, DateNamed, DayNamed}
 use Rattle.calendar.specs.Shelves.{almanac_at, nothing, AllLawful}
-use Rattle.calendar.proofs.Years.{months_most, stands_within, in_year, from_year}
+use Rattle.calendar.proofs.Years.{months_most, stands_within, in_year}
 use Rattle.calendar.proofs.Codes.{code_once}
 
 -- what code may count on at any place of a shelf, past its end too

@@ -1,10 +1,10 @@
 -- What the laws give of a lawful calendar's years: how far apart they begin, and that a day lies in one of them only.
-use Rattle.std.proofs.Common.{◌≡◌, ℕ, zero, suc, ◌+◌, ◌-◌, ◌*◌, ◌<◌, ◌≤◌, ◌⊎◌, List, length, take, sym, refl, ap, ◌∙◌, subst, ⊎_elim, arith, length-take}
+use Rattle.std.proofs.Common.{◌≡◌, ℕ, zero, suc, ◌+◌, ◌-◌, ◌*◌, ◌<◌, ◌≤◌, ap, subst, ⊎_elim, arith, length-take}
 use Rattle.std.proofs.lemmas.Bool.{cases_lt}
-use Rattle.days.specs.Months.{Has, Falls, total, before}
+use Rattle.days.specs.Months.{Falls}
 use Rattle.days.proofs.Totals.{falls_within, falls_once}
 use Rattle.calendar.specs.Sheets.{Almanac, Answered, Within, Stands, lengths_of, days_of}
-use Rattle.calendar.specs.Laws.{Lawful, Thirteen}
+use Rattle.calendar.specs.Laws.{Lawful}
 
 -- a date of a year is a place among its days
 pub in_year : (a : Almanac) (n y p d : ℕ) → Stands a n y p d → Falls (lengths_of (a.sheet y)) (n - (a.sheet y).first) p d

@@ -1,4 +1,6 @@
 // What a calendar is: year sheets, the two questions, the laws, and shelves of calendars.
+#![tactic(auto)]
+
 ghost use Rattle.std.specs.Prelude.{◌≡◌};
 ghost use Rattle.calendar.specs.Sheets.{Almanac, Dated};
 ghost use Rattle.calendar.specs.Laws.{Lawful};

@@ -1,4 +1,6 @@
 // Day numbers, weekdays, the Gregorian calendar and the eight-digit dates of files.
+#![tactic(auto)]
+
 ghost use Rattle.std.specs.Prelude.{◌≡◌};
 ghost use Rattle.days.specs.Numbers.{in_range};
 

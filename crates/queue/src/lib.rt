@@ -1,4 +1,6 @@
 // An earliest-first queue over lent places: a binary heap for every kind of entry that has a total order.
+#![tactic(auto)]
+
 ghost use Rattle.std.specs.Prelude.{◌≡◌, ◌+◌, ◌-◌, ◌*◌, ◌<◌, ◌≤◌, Bool, ◌∷◌, length, take, drop, nat_lt};
 ghost use Rattle.std.specs.declared.cmp.Ordering.{Ordering};
 ghost use Rattle.std.specs.List.Sorted.{IsPermutation};

@@ -1,5 +1,5 @@
 -- How many days of a set are before a day, and the last of the first n days of a set.
-use Rattle.std.proofs.Common.{◌≡◌, ℕ, zero, suc, ◌+◌, ◌-◌, ◌<◌, ◌≤◌, Bool, true, false, cond, ◌&&◌, ltb, leb, Some, None, Option, refl, ap, ◌∙◌, ⊎_elim, add-zero, add-suc, add-one, arith, MatchOption}
+use Rattle.std.proofs.Common.{◌≡◌, ℕ, zero, suc, ◌+◌, ◌-◌, ◌<◌, ◌≤◌, Bool, true, false, ◌&&◌, ltb, leb, Some, None, Option, refl, ap, ◌∙◌, ⊎_elim, add-zero, add-suc, add-one, arith, MatchOption}
 use Rattle.std.proofs.lemmas.Bool.{cases_Bool, cases_lt, and_from, and_parts}
 use Rattle.std.proofs.lemmas.Bool.Decides.{nat_tests}
 use Rattle.days.specs.Numbers.{in_range}

@@ -1,16 +1,13 @@
 -- The days of a list, by what a loop over it has seen and by the test whether it has a day.
-use Rattle.std.proofs.Common.{◌≡◌, ℕ, ◌+◌, ◌<◌, Bool, true, false, ◌||◌, eqb, List, [], ◌∷◌, ◌++◌, length, get_or, take, Decides, sym, refl, ap, ◌∙◌, arith}
-use Rattle.std.specs.List.{IsAnyAnswer}
-use Rattle.std.proofs.lemmas.List.Elements.{contains_decides}
+use Rattle.std.proofs.Common.{◌≡◌, ℕ, ◌+◌, ◌<◌, ◌||◌, eqb, List, [], ◌∷◌, ◌++◌, length, get_or, take, sym, refl, ap, ◌∙◌, arith}
+use Rattle.std.specs.List.{list_any}
 use Rattle.std.proofs.lemmas.List.{take_more}
-use Rattle.std.proofs.lemmas.Bool.Decides.{same_from_decides, Decides-by_or, Decides-eqb}
 use Rattle.sources.specs.Sets.{single, listed, union, Same}
 
 -- what `contains` answers
-pub contains_listed : (xs : List ℕ) (d : ℕ) (r : Bool) → IsAnyAnswer (λ y t. Decides t (y ≡ d)) xs r → r ≡ listed xs d
-contains_listed xs d r has =
-    same_from_decides r (listed xs d) (contains_decides eqb Decides-eqb xs d r has)
-    (Decides-by_or (λ x. eqb x d) (λ x. x ≡ d) (λ ys. listed ys d) (λ x. Decides-eqb x d) refl (λ _ _. refl) xs)
+pub contains_listed : (xs : List ℕ) (d : ℕ) → list_any (λ y. eqb y d) xs ≡ listed xs d
+contains_listed [] d = refl
+contains_listed (x ∷ xs) d = ap (λ b. eqb x d || b) (contains_listed xs d)
 
 listed_push : (xs : List ℕ) (x d : ℕ) → listed (xs ++ x ∷ []) d ≡ union (listed xs) (single x) d
 listed_push [] x d = grind arith

@@ -1,5 +1,5 @@
 -- Sets with the same days have the same answers.
-use Rattle.std.proofs.Common.{◌≡◌, ℕ, Bool, Some, None, Option, sym, ◌∙◌}
+use Rattle.std.proofs.Common.{ℕ, Bool, Some, None, Option, sym, ◌∙◌}
 use Rattle.sources.specs.Sets.{DayOf, Found, Same}
 
 module _ (s t : ℕ → Bool) (same : Same s t) where

@@ -1,4 +1,6 @@
 // Sets of days that answer which of their days comes next: bottom sources, layers over any source, and the days of events.
+#![tactic(auto)]
+
 ghost use Rattle.std.specs.Prelude.{ℕ, Bool};
 ghost use Rattle.sources.specs.Sets.{Found};
 

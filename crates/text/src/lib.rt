@@ -1,4 +1,6 @@
 // Bytes that are read one after another, and what is read from them: comparisons that ignore letter case, and pieces between separators.
+#![tactic(auto)]
+
 ghost use Rattle.std.specs.Prelude.{◌≡◌, ℕ, List, [], IfNone};
 ghost use Rattle.text.specs.Pieces.{before};
 

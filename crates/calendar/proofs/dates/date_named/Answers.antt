@@ -1,4 +1,4 @@
-use Rattle.std.proofs.Common.{◌≡◌, ◌-◌, ◌≤◌, get_or, Some, None, sym, refl, ap, ◌∙◌, subst, arith}
+use Rattle.std.proofs.Common.{◌≡◌, ◌-◌, ◌≤◌, get_or, Some, sym, refl, ap, ◌∙◌, subst, arith}
 use Rattle.calendar.specs.declared.sheet.MonthCode.{MonthCode}
 use Rattle.calendar.specs.declared.sheet.Sheet.{Sheet}
 use Rattle.calendar.specs.Sheets.{code_at, no_code}
@@ -10,7 +10,8 @@ use Rattle.calendar.proofs.Naming.{sound, month_of, date_named_some, date_named_
 use Rattle.calendar.proofs.Codes.{code_here}
 use Rattle.calendar.proofs.dates.date_named.Given.{Over}
 use Rattle.calendar.proofs.dates.date_named.Goals as goal
-use Rattle.calendar.proofs.dates.date_named.Goals.{After-sheet, at·sub-code, at·index-sheet-month, at·returns-in-Some}
+use Rattle.calendar.proofs.dates.date_named.Goals.{After-sheet}
+use Rattle.calendar.proofs.dates.date_named.Goals.at
 
 -- the month is one of the year's
 month : (g : Over) (c : After-sheet g) → (1 ≤ c.in-Some.month) × (c.in-Some.month ≤ ((almanac_at (g.S.Shelf.held c.args.shelf.now) c.args.place).sheet c.in-Some.year).months)
@@ -19,11 +20,11 @@ month g c =
     (c.in-Some.ensures.stands _ _ _ refl)
 
 pub overflow_sub-code : goal.overflow_sub-code
-overflow_sub-code g c = (month g (at·sub-code g c).After-sheet).0
+overflow_sub-code g c = (month g (at.overflow_sub-code g c).After-sheet).0
 
 pub bounds-sheet-month : goal.bounds-sheet-month
 bounds-sheet-month g c =
-    let m = month g (at·index-sheet-month g c).After-sheet in
+    let m = month g (at.bounds-sheet-month g c).After-sheet in
     let s = (sound _ (g.met.S.Shelf.lawful c.args.shelf.now) c.args.place).months c.in-Some.year in
     omega arith
 
@@ -32,7 +33,7 @@ returns-in-Some g c =
     let a = almanac_at (g.S.Shelf.held c.args.shelf.now) c.args.place in
     let y = c.in-Some.year in
     let p = c.in-Some.month in
-    let m = month g (at·returns-in-Some g c).After-sheet in
+    let m = month g (at.returns-in-Some g c).After-sheet in
     let code : code_at (a.sheet y) p ≡ get_or c.sheet.result.codes (p - 1) no_code =
     code_here (a.sheet y) p m.0 m.1 ∙ ap (λ (s : Sheet). get_or s.codes (p - 1) no_code) (sym c.sheet.ensures) in
     record {

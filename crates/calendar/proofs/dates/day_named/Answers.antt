@@ -1,4 +1,4 @@
-use Rattle.std.proofs.Common.{◌≡◌, ◌+◌, Some, None, sym, refl, subst, arith, rules}
+use Rattle.std.proofs.Common.{◌+◌, Some, None, sym, refl, subst, rules}
 use Rattle.days.specs.Months.{Counted}
 use Rattle.calendar.specs.declared.sheet.Sheet.{Sheet}
 use Rattle.calendar.specs.Sheets.{lengths_of}

@@ -1,5 +1,4 @@
-use Rattle.std.proofs.Common.{◌≡◌, ℕ, Option, sym, ap, ◌∙◌, subst, arith, rules}
-use Rattle.std.specs.Option.{SomeIff}
+use Rattle.std.proofs.Common.{◌≡◌, ap, subst, arith, rules}
 use Rattle.calendar.specs.declared.sheet.Sheet.{Sheet}
 use Rattle.calendar.specs.declared.search.Sight.TheVariants.{Here, Earlier, Later}
 use Rattle.calendar.specs.Sheets.{Answered}
@@ -8,7 +7,8 @@ use Rattle.calendar.proofs.Years.{months_most, from_year}
 use Rattle.calendar.proofs.Dating.{Step, dated_some, earlier_step, later_step}
 use Rattle.calendar.proofs.search.date_from.Given.{Over}
 use Rattle.calendar.proofs.search.date_from.Goals as goal
-use Rattle.calendar.proofs.search.date_from.Goals.{in-Earlier, in-Later, Joined-look, at·returns-in_default, at·loop-sheet-less, at·loop-sheet-again}
+use Rattle.calendar.proofs.search.date_from.Goals.{in-Earlier, in-Later, Joined-look}
+use Rattle.calendar.proofs.search.date_from.Goals.at
 
 pub look-requires : goal.look-requires
 look-requires g c =
@@ -44,10 +44,10 @@ stepped g c =
     ]
 
 pub returns-in_default : goal.returns-in_default
-returns-in_default g c = rw c.in_default.is at (stepped g (at·returns-in_default g c).Joined-look)
+returns-in_default g c = rw c.in_default.is at (stepped g (at.returns-in_default g c).Joined-look)
 
 pub loop-sheet-smaller : goal.loop-sheet-smaller
-loop-sheet-smaller g c = (rw c.in-Some.is at (stepped g (at·loop-sheet-less g c).Joined-look)).1
+loop-sheet-smaller g c = (rw c.in-Some.is at (stepped g (at.loop-sheet-smaller g c).Joined-look)).1
 
 pub loop-sheet-preserved : goal.loop-sheet-preserved
-loop-sheet-preserved g c = (rw c.in-Some.is at (stepped g (at·loop-sheet-again g c).Joined-look)).0
+loop-sheet-preserved g c = (rw c.in-Some.is at (stepped g (at.loop-sheet-preserved g c).Joined-look)).0

@@ -5,7 +5,8 @@ use Rattle.rules.specs.Onward.{reachable, the_date}
 use Rattle.rules.proofs.Finding.{left_first, left_less, left_least, left_none, in_reach_placed, which_few, reached_next, over_found, last_found, day_found}
 use Rattle.rules.proofs.source.search_from.Given.{Over}
 use Rattle.rules.proofs.source.search_from.Goals as goal
-use Rattle.rules.proofs.source.search_from.Goals.{Else-not-in_reach, at·add_period-used-requires, at·add-passed, at·search-less}
+use Rattle.rules.proofs.source.search_from.Goals.{Else-not-in_reach}
+use Rattle.rules.proofs.source.search_from.Goals.at
 
 -- the period is in reach
 reached : (g : Over) (c : Else-not-in_reach g) → reachable (g.C.Sheets.meaning c.args.calendar.now) c.search.period ≡ true
@@ -26,7 +27,7 @@ add_period-used-requires g c =
     record {
       room = omega arith;
       dated = c.requires.dated;
-      placed = in_reach_placed _ l c.args.rule.now c.args.start (the_date c.args.date) c.requires.ranged c.requires.dated c.args.low c.requires.late c.search.period c.search.invariant.1 (reached g (at·add_period-used-requires g c).Else-not-in_reach);
+      placed = in_reach_placed _ l c.args.rule.now c.args.start (the_date c.args.date) c.requires.ranged c.requires.dated c.args.low c.requires.late c.search.period c.search.invariant.1 (reached g (at.add_period-used-requires g c).Else-not-in_reach);
     }
 
 pub loop-day-preserved : goal.loop-day-preserved
@@ -38,10 +39,10 @@ loop-day-preserved g c =
     )
 
 pub overflow_add-passed : goal.overflow_add-passed
-overflow_add-passed g c = let p = few g (at·add-passed g c).Else-not-in_reach in search rules
+overflow_add-passed g c = let p = few g (at.add-passed g c).Else-not-in_reach in search rules
 
 pub search-smaller : goal.search-smaller
-search-smaller g c = let p = few g (at·search-less g c).Else-not-in_reach in search rules
+search-smaller g c = let p = few g (at.search-less g c).Else-not-in_reach in search rules
 
 pub search-preserved : goal.search-preserved
 search-preserved g c =

@@ -1,5 +1,6 @@
+use Rattle.std.proofs.Common.{◌∙◌}
 use Rattle.sources.proofs.Lists.{contains_listed}
 use Rattle.sources.proofs.bottom.lists.Goals as goal
 
 pub returns : goal.returns
-returns c = contains_listed c.args.days.now c.args.day c.contains.result c.contains.ensures.cases
+returns c = c.contains.ensures.value ∙ contains_listed c.args.days.now c.args.day

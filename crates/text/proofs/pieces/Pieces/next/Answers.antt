@@ -1,6 +1,4 @@
-use Rattle.std.proofs.Common.{◌≡◌, ℕ, Bool, true, false, cond, not, List, [], ◌∷◌, sym, ap, ◌∙◌}
-use Rattle.text.specs.Pieces.{pieces, up_to, past, has}
-use Rattle.text.proofs.Cutting.{cut, next_piece}
+use Rattle.text.proofs.Cutting.{next_piece}
 use Rattle.text.proofs.pieces.Pieces.next.Goals as goal
 
 pub returns : goal.returns
