@@ -22,4 +22,4 @@ returns-then-same_code c =
 pub loop-i-preserved : goal.loop-i-preserved
 loop-i-preserved c =
     below_on (λ (i : ℕ). same_code (code_at c.args.sheet.now (i + 1)) c.args.code) c.loop-i.i c.loop-i.invariant
-    (sym (asks (at.loop-i-again c).After-same_code) ∙ c.if-same_code.false)
+    (sym (asks (at.loop-i-preserved c).After-same_code) ∙ c.if-same_code.false)

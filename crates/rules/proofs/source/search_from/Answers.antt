@@ -39,10 +39,10 @@ loop-day-preserved g c =
     )
 
 pub overflow_add-passed : goal.overflow_add-passed
-overflow_add-passed g c = let p = few g (at.add-passed g c).Else-not-in_reach in search rules
+overflow_add-passed g c = let p = few g (at.overflow_add-passed g c).Else-not-in_reach in search rules
 
 pub search-smaller : goal.search-smaller
-search-smaller g c = let p = few g (at.search-less g c).Else-not-in_reach in search rules
+search-smaller g c = let p = few g (at.search-smaller g c).Else-not-in_reach in search rules
 
 pub search-preserved : goal.search-preserved
 search-preserved g c =

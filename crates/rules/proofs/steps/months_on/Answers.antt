@@ -16,13 +16,13 @@ returns-then-months-eq0 g c =
     let a = g.C.Sheets.meaning c.args.calendar.now in
     let e = c.loop-i.invariant.1 in
     let none : Answered a c.loop-i.year → ⊥ = (λ h. omega arith) in
-    none_further a _ (c.loop-i.year, c.loop-i.place) c.loop-i.-i c.loop-i.invariant.0 c.args.count (omega arith) none
+    none_further a _ (c.loop-i.year, c.loop-i.place) c.loop-i._i c.loop-i.invariant.0 c.args.count (omega arith) none
 
 pub returns-in_err-year : goal.returns-in_err-year
 returns-in_err-year g c =
     let a = g.C.Sheets.meaning c.args.calendar.now in
     let y = c.loop-i.year in
-    let i = c.loop-i.-i in
+    let i = c.loop-i._i in
     let e = c.loop-i.invariant.1 in
     let next = next_year a (c.args.year, c.args.place) (y, c.loop-i.place) i c.loop-i.invariant.0 (omega arith) in
     let none : Answered a (y + 1) → ⊥ =
@@ -39,9 +39,9 @@ loop-i-preserved g c =
     let at = c.loop-i.invariant.0 in
     let e = c.loop-i.invariant.1 in
     elim c.if-place-months.branch [
-      | then-place-months w ↦ let next = same_year a m here c.loop-i.-i at (omega arith) in (cc, cc)
+      | then-place-months w ↦ let next = same_year a m here c.loop-i._i at (omega arith) in (cc, cc)
       | else-place-months+in_ok-year w ↦
-          let next = next_year a m here c.loop-i.-i at (omega arith) in
+          let next = next_year a m here c.loop-i._i at (omega arith) in
           let later = w.in_ok-year.ensures.1 in
           (cc, cc)
     ]
