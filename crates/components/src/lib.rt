@@ -1,4 +1,6 @@
 // The components of a file, each END that of the innermost BEGIN, and its events with their own lines.
+#![tactic(auto)]
+
 mod events;
 mod tree;
 

@@ -7,7 +7,7 @@ use Rattle.file_laws.specs.Physical.{Unbroken, written}
 use Rattle.file_laws.specs.Unfolded.{Group, continues, Grouped, physical, all_physical, unfolded, logical, all_logical, Unfolding}
 use Rattle.file_laws.proofs.PhysicalOf.{all_lines}
 
--- the first_group of the first line, and those after it
+-- the first group, that of the first line, and those after it
 BeginsWith : List ℕ → List (List ℕ) → Type 0
 BeginsWith l ls = (os : List (List ℕ)) × (gs : List Group) × Grouped (record { first = l; others = os } ∷ gs) × (l ∷ ls ≡ all_physical (record { first = l; others = os } ∷ gs))
 
@@ -26,7 +26,7 @@ unfolding BeginsWith
 groups [] = ([], (tt, tt), refl)
 groups (l ∷ ls) = let (os, gs, h, e) = first_group l ls in (record { first = l; others = os } ∷ gs, h, e)
 
--- one first_group put together, before lines that do not continue it
+-- one group put together, before lines that do not continue it
 one : (os : List (List ℕ)) (p : ℕ) (l : List ℕ) (ls : List (List ℕ)) → All (λ o. continues o ≡ true) os → go_on ls ≡ false → joined p (l ∷ (os ++ ls)) ≡ record { place = p; text = l ++ unfolded os } ∷ joined (p + (1 + length os)) ls
 one [] p l ls h e = cond-false (go_on ls) _ _ e ∙ ap (λ t. record { place = p; text = t } ∷ joined (p + 1) ls) (sym (append-nil l))
 one ([] ∷ os) p l ls h e = absurd (false≢true h.0)

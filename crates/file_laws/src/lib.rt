@@ -1,4 +1,6 @@
 // What the definitions of lines and components mean, said in the words of the files themselves: each law is a theorem over every text.
+#![tactic(auto)]
+
 ghost use Rattle.file_laws.specs.Form.{FormOfALine};
 ghost use Rattle.file_laws.specs.Physical.{LineEnds};
 ghost use Rattle.file_laws.specs.Texts.{PiecesOfAText, SameText};

@@ -1,4 +1,6 @@
 // The lines of a file, in place over its bytes: folds, places, and the parts of a line.
+#![tactic(auto)]
+
 mod cursor;
 mod ended;
 mod machine;

@@ -1,9 +1,8 @@
 -- What an event that passes every question has.
-use Rattle.std.proofs.Common.{◌≡◌, ℕ, Bool, true, false, cond, List, [], ◌∷◌, drop, is_some, Some, None, Option, sym, refl, ap, ◌∙◌, arith}
+use Rattle.std.proofs.Common.{◌≡◌, ℕ, Bool, true, false, cond, List, [], ◌∷◌, drop, is_some, Some, None, Option, refl, arith}
 use Rattle.days.specs.Numbers.{in_range}
 use Rattle.lines.specs.Lines.{Line}
 use Rattle.components.specs.Events.{Event}
-use Rattle.vevent.specs.declared.questions.EventFault.{EventFault}
 use Rattle.vevent.specs.declared.questions.EventQuestion.TheVariants.{OneStart, StartDate, StartInRange}
 use Rattle.vevent.specs.Lists.{if_ranged}
 use Rattle.vevent.specs.Questions.{Asked, asked, first_failed, first_failing, lone, starts, one_start, start_date, start_in_range, date_of_line}

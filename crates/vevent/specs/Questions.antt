@@ -1,5 +1,5 @@
 -- The questions on an event's own lines, in their order: each gives the place of the line that fails it, or none.
-use Rattle.std.specs.Prelude.{ℕ, min, Bool, cond, not, ◌&&◌, List, [], ◌∷◌, length, is_some, Some, None, Ok, Err, codes, Option, Result}
+use Rattle.std.specs.Prelude.{ℕ, min, Bool, cond, ◌&&◌, List, [], ◌∷◌, length, is_some, Some, None, Ok, Err, codes, Option, Result}
 use Rattle.text.specs.Dates.{day_in}
 use Rattle.text.specs.Pieces.{pieces}
 use Rattle.lines.specs.Lines.{Line}

@@ -1,4 +1,6 @@
 // An event's own lines: the questions on them, and what is kept of them.
+#![tactic(auto)]
+
 mod bounded;
 mod kept;
 mod lists;

@@ -1,4 +1,4 @@
-use Rattle.std.proofs.Common.{ℕ, List, [], ◌∷◌, ◌++◌, take, sym, ap, ◌∙◌, subst}
+use Rattle.std.proofs.Common.{List, take, ap, ◌∙◌, subst}
 use Rattle.lines.specs.Lines.{Line}
 use Rattle.components.specs.Events.{picked, own}
 use Rattle.vevent.specs.Bounds.{Holds}

@@ -1,4 +1,4 @@
-use Rattle.std.proofs.Common.{ℕ, List, [], ◌∷◌, ◌++◌, take, sym, ap, ◌∙◌, subst}
+use Rattle.std.proofs.Common.{[], ◌∷◌, ◌++◌, take, ◌∙◌, subst}
 use Rattle.vevent.specs.Bounds.{Holds}
 use Rattle.vevent.proofs.Held.{pushed, all_in}
 use Rattle.vevent.proofs.kept.first_bytes.Goals as goal

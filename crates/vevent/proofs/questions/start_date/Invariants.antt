@@ -1,7 +1,6 @@
 use Rattle.std.proofs.Common.{◌≡◌, length, is_some, codes}
 use Rattle.lines.specs.View.{view}
 use Rattle.components.specs.Events.{picked, own}
-use Rattle.vevent.specs.Lists.{if_ranged}
 use Rattle.vevent.specs.Questions.{first_failing, date_of_line}
 use Rattle.vevent.proofs.questions.start_date.Given as goal
 

@@ -13,7 +13,7 @@ loop-at-preserved-then-folds_at c =
 pub invariant_of-self : goal.invariant_of-self
 invariant_of-self c =
     let w = within_end c.loop-at.self.bytes.now c.loop-at.at (sym c.if-ends_at.ensures) in
-    (w, (c.loop-at.self.small, (omega arith, tt)))
+    record { within = w; small = c.loop-at.self.small; placed = omega arith }
 
 pub returns-then-ends_at : goal.returns-then-ends_at
 returns-then-ends_at c =

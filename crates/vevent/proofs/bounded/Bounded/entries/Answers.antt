@@ -1,4 +1,4 @@
-use Rattle.std.proofs.Common.{length, take, sym, ap, arith}
+use Rattle.std.proofs.Common.{sym, arith}
 use Rattle.std.proofs.lemmas.List.{take_all}
 use Rattle.vevent.proofs.bounded.Bounded.entries.Goals as goal
 
