@@ -1,4 +1,6 @@
 // The calendars: Gregorian, Coptic, Islamic civil and Hebrew.
+#![tactic(auto)]
+
 mod codes;
 pub mod coptic;
 pub mod gregorian;

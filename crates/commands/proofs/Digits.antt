@@ -1,7 +1,7 @@
 -- Digits read one by one: what those still to come make of the number so far.
-use Rattle.std.proofs.Common.{◌≡◌, ℕ, ◌+◌, ◌-◌, ◌*◌, ◌<◌, ◌≤◌, Bool, true, false, cond, ◌&&◌, leb, List, [], ◌∷◌, length, Some, None, Option, sym, refl, ◌∙◌, arith}
+use Rattle.std.proofs.Common.{◌≡◌, ℕ, ◌+◌, ◌-◌, ◌*◌, ◌<◌, ◌≤◌, cond, ◌&&◌, leb, List, [], ◌∷◌, Some, None, Option, arith}
 use Rattle.std.proofs.lemmas.Bool.{lt-leb, cond-false, and_right}
-use Rattle.days.specs.Digits.{digit, written_after}
+use Rattle.days.specs.Digits.{written_after}
 use Rattle.commands.specs.Numbers.{all_digits}
 
 -- the number that digits write after those of n, if they are digits and it is no larger than the most

@@ -1,4 +1,6 @@
 // Commands: the words of a line, what they ask for, and what is wrong with a line that cannot be used.
+#![tactic(auto)]
+
 mod codes;
 mod command;
 mod complaint;

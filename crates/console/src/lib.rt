@@ -1,4 +1,6 @@
 // The console: answers to commands, as text.
+#![tactic(auto)]
+
 mod answers;
 mod lines;
 mod texts;

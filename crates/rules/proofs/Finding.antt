@@ -1,17 +1,16 @@
 -- A search through periods and their days: what is left of a period's days in the queue, and what the search finds.
-use Rattle.std.proofs.Common.{◌≡◌, ℕ, ◌+◌, ◌-◌, ◌*◌, ◌<◌, ◌≤◌, Bool, true, false, cond, ltb, leb, ◌⊎◌, List, ◌∷◌, length, take, Some, None, Option, sym, refl, ap, ◌∙◌, subst, ⊎_elim, not-suc-le-zero, arith}
-use Rattle.std.specs.List.Sorted.{IsPermutation}
+use Rattle.std.proofs.Common.{◌≡◌, ℕ, ◌+◌, ◌-◌, ◌*◌, ◌<◌, ◌≤◌, Bool, true, false, ltb, leb, List, ◌∷◌, take, Some, None, sym, refl, subst, ⊎_elim, not-suc-le-zero, arith}
 use Rattle.std.specs.List.{ContainsAt as Has}
 use Rattle.std.proofs.lemmas.List.Sorted.{IsPermutation-sym}
-use Rattle.std.proofs.lemmas.Bool.{cases_lt, cond_both, leb-true, leb-false, ltb-true, ltb-false, le-leb, and_from, and_parts}
+use Rattle.std.proofs.lemmas.Bool.{cases_lt, cond_both, leb-true, leb-false, ltb-true, ltb-false}
 use Rattle.days.specs.Numbers.{in_range, remainder}
-use Rattle.calendar.specs.Sheets.{Almanac, Answered, Stands}
+use Rattle.calendar.specs.Sheets.{Almanac, Stands}
 use Rattle.calendar.specs.Laws.{Lawful}
 use Rattle.calendar.proofs.Years.{stands_within}
 use Rattle.calendar.proofs.Naming.{month_of}
-use Rattle.queue.specs.Heap.{Heaped, Taken, Popped}
-use Rattle.queue.proofs.Members.{with_itself, with_keeps, with_only}
-use Rattle.sources.specs.Sets.{Found, DayOf, Least}
+use Rattle.queue.specs.Heap.{Heaped, Taken}
+use Rattle.queue.proofs.Members.{with_keeps, with_only}
+use Rattle.sources.specs.Sets.{Found}
 use Rattle.rules.specs.declared.checked.Rule.{Rule}
 use Rattle.rules.specs.declared.parts.Frequency.{Frequency}
 use Rattle.rules.specs.declared.parts.Frequency.TheVariants.{Yearly, Monthly, Weekly, Daily}

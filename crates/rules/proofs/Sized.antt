@@ -1,10 +1,8 @@
 -- The sheets of a lawful calendar are of a usable size.
-use Rattle.std.proofs.Common.{◌≡◌, ℕ, ◌+◌, ◌-◌, ◌<◌, ◌≤◌, sym, ⊎_elim, arith}
-use Rattle.days.specs.Months.{total, before}
-use Rattle.calendar.specs.Sheets.{Almanac, Answered, Within, days_of, lengths_of}
+use Rattle.std.proofs.Common.{ℕ, ◌+◌, ◌-◌, arith}
+use Rattle.calendar.specs.Sheets.{Almanac, Answered, days_of}
 use Rattle.calendar.specs.Laws.{Lawful}
 use Rattle.calendar.proofs.Years.{months_most}
-use Rattle.rules.specs.Meaning.{month_at}
 use Rattle.rules.specs.Found.{Usable}
 use Rattle.rules.proofs.Bounds.{month_end, size_some}
 

@@ -7,7 +7,6 @@ use Rattle.rules.specs.declared.checked.Rule.{Rule}
 use Rattle.rules.specs.Parts.{no_items}
 use Rattle.rules.specs.Meaning.{Date, some_below, some_month, month_at, whole_year, by_month, by_month_day, by_day, weekday_passes, month_days_give, weekdays_give, own_day_gives, code_gives, chosen, year_gives}
 use Rattle.rules.specs.Found.{in_month, taken, by_day_alone}
-use Rattle.rules.proofs.Tests.{limit_both}
 
 -- tests that agree find the same
 pub below_same : (f g : ℕ → Bool) → ((i : ℕ) → f i ≡ g i) → (k : ℕ) → some_below f k ≡ some_below g k

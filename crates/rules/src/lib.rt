@@ -1,4 +1,6 @@
 // Rules over any lawful calendar.
+#![tactic(auto)]
+
 mod checked;
 mod codes;
 mod filling;

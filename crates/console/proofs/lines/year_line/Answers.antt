@@ -1,4 +1,4 @@
-use Rattle.std.proofs.Common.{◌≡◌, ◌-◌, ◌≤◌, min, length, take, string_bytes, arith}
+use Rattle.std.proofs.Common.{◌≡◌, string_bytes, arith}
 use Rattle.calendar.specs.Sheets.{codes_of, lengths_of}
 use Rattle.console.specs.Lines.{months_text}
 use Rattle.console.proofs.Said.{take_min}

@@ -1,4 +1,3 @@
-use Rattle.std.proofs.Common.{sym, ◌∙◌}
 use Rattle.rules.specs.Meaning.{code_gives}
 use Rattle.rules.proofs.Tests.{passes_here, passes_on, passes_none}
 use Rattle.rules.proofs.codes.some_code_gives.Goals as goal

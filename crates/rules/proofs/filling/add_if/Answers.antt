@@ -1,4 +1,4 @@
-use Rattle.std.proofs.Common.{◌≡◌, ℕ, Bool, ◌&&◌, eqb, ap}
+use Rattle.std.proofs.Common.{Bool, ◌&&◌, eqb, ap}
 use Rattle.rules.proofs.Added.{adds_one}
 use Rattle.rules.proofs.filling.add_if.Goals as goal
 

@@ -1,4 +1,3 @@
-use Rattle.std.proofs.Common.{sym, ◌∙◌}
 use Rattle.rules.specs.Meaning.{same_code}
 use Rattle.rules.proofs.Tests.{passes_here, passes_on, passes_none}
 use Rattle.rules.proofs.limits.is_some_code.Goals as goal

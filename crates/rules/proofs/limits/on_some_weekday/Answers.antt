@@ -1,4 +1,3 @@
-use Rattle.std.proofs.Common.{sym, ◌∙◌}
 use Rattle.rules.specs.Meaning.{on_weekday}
 use Rattle.rules.proofs.Tests.{passes_here, passes_on, passes_none}
 use Rattle.rules.proofs.limits.on_some_weekday.Goals as goal

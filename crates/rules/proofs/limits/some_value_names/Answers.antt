@@ -1,4 +1,3 @@
-use Rattle.std.proofs.Common.{sym, ◌∙◌}
 use Rattle.rules.specs.Meaning.{names}
 use Rattle.rules.proofs.Tests.{passes_here, passes_on, passes_none}
 use Rattle.rules.proofs.limits.some_value_names.Goals as goal

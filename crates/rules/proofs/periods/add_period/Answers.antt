@@ -1,9 +1,9 @@
-use Rattle.std.proofs.Common.{◌≡◌, ℕ, ◌≤◌, ◌&&◌, leb, sym, refl, ap, ◌∙◌, subst, arith}
+use Rattle.std.proofs.Common.{◌&&◌, leb, sym, refl, ap, ◌∙◌, subst, arith}
 use Rattle.calendar.specs.declared.sheet.MonthCode.{MonthCode}
 use Rattle.calendar.specs.declared.sheet.Sheet.{Sheet}
 use Rattle.calendar.specs.Sheets.{code_at}
 use Rattle.rules.specs.declared.period.Period.{Period}
-use Rattle.rules.specs.Meaning.{year_gives, month_gives, month_at, code_passes, period_gives}
+use Rattle.rules.specs.Meaning.{year_gives, month_at, code_passes, period_gives}
 use Rattle.rules.specs.Found.{Placed, Usable, in_month}
 use Rattle.rules.specs.Onward.{the_date}
 use Rattle.rules.proofs.Sized.{usable}

@@ -1,8 +1,8 @@
-use Rattle.std.proofs.Common.{◌≡◌, ℕ, ◌+◌, ◌≤◌, true, Option, sym, refl, ap, ◌∙◌, subst, arith, rules}
+use Rattle.std.proofs.Common.{◌≡◌, ℕ, ◌≤◌, true, Option, sym, refl, ◌∙◌, subst, arith, rules}
 use Rattle.sources.specs.Sets.{Found}
 use Rattle.rules.specs.Meaning.{gives, period_gives}
 use Rattle.rules.specs.Onward.{reachable, the_date}
-use Rattle.rules.proofs.Finding.{left_first, left_less, left_least, left_none, in_reach_placed, which_few, reached_next, over_found, last_found, day_found}
+use Rattle.rules.proofs.Finding.{left_less, left_least, left_none, in_reach_placed, which_few, reached_next, over_found, last_found, day_found}
 use Rattle.rules.proofs.source.search_from.Given.{Over}
 use Rattle.rules.proofs.source.search_from.Goals as goal
 use Rattle.rules.proofs.source.search_from.Goals.{Else-not-in_reach}

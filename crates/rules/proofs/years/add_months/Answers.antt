@@ -1,4 +1,4 @@
-use Rattle.std.proofs.Common.{◌≡◌, ℕ, ◌+◌, ◌*◌, ◌≤◌, Bool, ◌&&◌, ◌||◌, sym, refl, ap, ◌∙◌, add-one, arith}
+use Rattle.std.proofs.Common.{◌≡◌, ℕ, ◌+◌, ◌*◌, Bool, ◌&&◌, sym, ap, ◌∙◌, add-one, arith}
 use Rattle.rules.specs.Meaning.{some_below, month_at}
 use Rattle.rules.specs.Found.{in_month, taken}
 use Rattle.rules.proofs.Tests.{or_comm}

@@ -1,4 +1,4 @@
-use Rattle.std.proofs.Common.{◌≡◌, ℕ, ◌≤◌, ◌&&◌, sym, ap, ◌∙◌, arith}
+use Rattle.std.proofs.Common.{ℕ, ◌≤◌, ◌&&◌, sym, ap, ◌∙◌, arith}
 use Rattle.rules.specs.declared.period.Stretch.{Stretch}
 use Rattle.rules.specs.Meaning.{weekdays_give, some_month, month_at}
 use Rattle.rules.specs.Found.{in_month, taken}

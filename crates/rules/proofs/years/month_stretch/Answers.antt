@@ -1,8 +1,7 @@
-use Rattle.std.proofs.Common.{◌≡◌, ℕ, ◌+◌, ◌-◌, ◌<◌, ◌≤◌, length, get_or, take, sym, ap, ◌∙◌, arith, rules}
+use Rattle.std.proofs.Common.{◌≡◌, ℕ, ◌+◌, ◌-◌, ◌<◌, ◌≤◌, get_or, take, sym, ap, ◌∙◌, arith, rules}
 use Rattle.std.proofs.lemmas.List.{get_or-take, take-take}
 use Rattle.days.specs.Months.{total}
 use Rattle.days.proofs.Totals.{total_more}
-use Rattle.rules.specs.declared.period.Stretch.{Stretch}
 use Rattle.rules.proofs.years.month_stretch.Goals as goal
 
 pub loop-length-preserved : goal.loop-length-preserved

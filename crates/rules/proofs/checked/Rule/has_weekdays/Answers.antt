@@ -1,4 +1,4 @@
-use Rattle.std.proofs.Common.{ℕ, Bool, not, take, ap, ◌∙◌}
+use Rattle.std.proofs.Common.{ℕ, not, take, ap, ◌∙◌}
 use native.Mathlib.Nat.{sub-zero}
 use Rattle.rules.specs.Parts.{no_items}
 use Rattle.rules.proofs.Tests.{empty_items}
