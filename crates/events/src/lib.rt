@@ -1,4 +1,6 @@
 // The days of events whose rules stand over the calendars of a shelf.
+#![tactic(auto)]
+
 mod days_of;
 mod shelf_rule;
 

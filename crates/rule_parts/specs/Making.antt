@@ -1,5 +1,5 @@
 -- The rule that is made of parts.
-use Rattle.std.specs.Prelude.{◌≡◌, ℕ, Bool, true, false, Some, None, Option}
+use Rattle.std.specs.Prelude.{◌≡◌, Bool, true, false, Some, None, Option}
 use Rattle.rules.specs.declared.checked.Rule.{Rule}
 use Rattle.rules.specs.Parts.{well_formed}
 use Rattle.rule_parts.specs.declared.parts.Parts.{Parts}

@@ -1,18 +1,12 @@
 -- What is read is within its bounds.
-use Rattle.std.proofs.Common.{◌≡◌, ℕ, suc, ◌-◌, Bool, true, false, cond, ◌&&◌, eqb, leb, List, [], ◌∷◌, ◌++◌, length, take, replicate, Some, None, Option, sym, refl, ap, ◌∙◌}
+use Rattle.std.proofs.Common.{◌≡◌, ℕ, suc, ◌-◌, Bool, true, ◌&&◌, eqb, leb, List, [], ◌∷◌, length, take, replicate, Some, None, Option, refl, ap, ◌∙◌}
 use Rattle.std.proofs.lemmas.List.{take_at}
 use Rattle.std.proofs.lemmas.Bool.{and_from, cond_both}
-use Rattle.calendar.specs.declared.sheet.MonthCode.{MonthCode}
 use Rattle.days.specs.declared.weekday.Weekday.{Weekday}
 use Rattle.rules.specs.Parts.{each_of, code_ok, position_ok, number_ok, codes_in, values_in, weekdays_in}
-use Rattle.rules.specs.declared.parts.ByDay.{ByDay}
-use Rattle.rules.specs.declared.parts.MonthDays.{MonthDays}
-use Rattle.rules.specs.declared.parts.Months.{Months}
 use Rattle.rules.specs.declared.parts.Position.{Position}
 use Rattle.rules.specs.declared.parts.Position.TheVariants.{FromStart, FromEnd}
-use Rattle.rules.specs.declared.parts.Weekdays.{Weekdays}
 use Rattle.text.specs.Pieces.{pieces}
-use Rattle.rule_values.specs.declared.values.Number.{Number}
 use Rattle.rule_values.specs.Numbers.{from_one, number_to, number_read, counted, position_read}
 use Rattle.rule_values.specs.Items.{ahead, lettered, leap_read, month_code, month_code_read, month_day_read, which_read, some_position, by_day, by_day_read}
 use Rattle.rule_values.specs.Words.{weekday_read}

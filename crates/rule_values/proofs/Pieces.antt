@@ -1,8 +1,7 @@
 -- The pieces of a text, one after another.
-use Rattle.std.proofs.Common.{◌≡◌, ℕ, ◌<◌, Bool, true, false, cond, ◌||◌, eqb, List, [], ◌∷◌, length, sym, refl, ap, ◌∙◌, ⊎_elim, arith}
+use Rattle.std.proofs.Common.{◌≡◌, ℕ, ◌<◌, true, false, cond, eqb, List, [], ◌∷◌, length, sym, refl, ap, ◌∙◌, ⊎_elim, arith}
 use Rattle.std.proofs.lemmas.Bool.{cases_Bool}
-use Rattle.std.proofs.lemmas.Bool.Decides.{nat_tests}
-use Rattle.text.specs.Pieces.{up_to, past, has, pieces, onto_first}
+use Rattle.text.specs.Pieces.{up_to, past, has, pieces}
 
 pub pieces_more : (m : ℕ) (bs : List ℕ) → has m bs ≡ true → pieces m bs ≡ up_to m bs ∷ pieces m (past m bs)
 pieces_more m [] h = absurd (grind arith)

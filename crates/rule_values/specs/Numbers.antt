@@ -1,5 +1,5 @@
 -- Numbers of one to four digits, with bounds and with signs.
-use Rattle.std.specs.Prelude.{ℕ, Bool, true, cond, ◌&&◌, List, [], ◌∷◌, length, Some, None, Option, ◌==◌, nat_le}
+use Rattle.std.specs.Prelude.{ℕ, cond, ◌&&◌, List, [], ◌∷◌, length, Some, None, Option, ◌==◌, nat_le}
 use Rattle.days.specs.Digits.{digit, written_after}
 use Rattle.rules.specs.Parts.{each_of}
 use Rattle.rules.specs.declared.parts.Position.{Position}

@@ -1,5 +1,5 @@
 -- The values of the parts. A place that no list uses holds a month 0, a day 0 or a Monday.
-use Rattle.std.specs.Prelude.{ℕ, Bool, true, false, cond, ◌&&◌, ◌||◌, List, [], ◌∷◌, length, Some, None, Ok, Err, Option, Result, ◌==◌, nat_le}
+use Rattle.std.specs.Prelude.{ℕ, Bool, false, cond, ◌&&◌, ◌||◌, List, length, Some, None, Ok, Err, Option, Result, ◌==◌, nat_le}
 use Rattle.std.specs.Char.{is_ascii_alphanumeric}
 use Rattle.calendar.specs.declared.sheet.MonthCode.{MonthCode}
 use Rattle.days.specs.Digits.{date_read}

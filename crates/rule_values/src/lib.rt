@@ -1,4 +1,6 @@
 // The values of an RRULE's parts: what a text of each form means, read in place from any bytes.
+#![tactic(auto)]
+
 mod form;
 mod items;
 mod lists;

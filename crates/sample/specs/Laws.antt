@@ -4,7 +4,7 @@ use Rattle.std.proofs.Common.{⊎_elim, arith}
 use Rattle.std.proofs.lemmas.Bool.{eqb-true, or_cases, cond_both}
 use Rattle.calendar.specs.declared.sheet.Sheet.{Sheet}
 use Rattle.calendar.specs.Laws.{Lawful}
-use Rattle.calendar.proofs.Tested.{Tested, lawful}
+use Rattle.calendar.proofs.Tested.{lawful}
 use Rattle.calendars.specs.Years.{Years, silent}
 use Rattle.sample.specs.Wandering.{wandering, wandering_year, new_year, common_year, year_with_3L, year_with_9L}
 

@@ -1,6 +1,6 @@
 -- A calendar of our own, unlike the others: months of 31 and 28 days in turn, and every third year a leap month of 30
 -- days, in turn after the third and after the ninth month.
-use Rattle.std.specs.Prelude.{ℕ, ◌+◌, ◌-◌, ◌*◌, ◌/◌, ◌%◌, Bool, true, false, cond, ◌||◌, List, [], ◌∷◌, ◌++◌, codes, ◌==◌}
+use Rattle.std.specs.Prelude.{ℕ, ◌+◌, ◌-◌, ◌*◌, ◌/◌, ◌%◌, true, cond, ◌||◌, [], ◌∷◌, ◌++◌, codes, ◌==◌}
 use Rattle.calendar.specs.declared.sheet.MonthCode.{MonthCode}
 use Rattle.calendar.specs.declared.sheet.Sheet.{Sheet}
 use Rattle.calendar.specs.Sheets.{Almanac, no_code}

@@ -1,4 +1,6 @@
 // A fifth calendar, unlike the four: what stands above the laws takes it with nothing changed.
+#![tactic(auto)]
+
 ghost use Rattle.std.specs.Prelude.{◌≡◌, ◌≤◌};
 ghost use Rattle.calendars.specs.Codes.{plain_code};
 ghost use Rattle.sample.specs.Wandering.{wandering, wandering_year, leap_code, common_year, year_with_3L, year_with_9L};

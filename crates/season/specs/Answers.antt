@@ -1,7 +1,6 @@
 -- What answers say: of a day its date in each calendar of a shelf, and of a command what it asks for.
 use Rattle.std.specs.Prelude.{◌≡◌, ℕ, ◌<◌, List, length, None, Ok, Err, Option, Result, slice_index_or}
 use Rattle.calendar.specs.declared.dates.NamedDate.{NamedDate}
-use Rattle.calendar.specs.declared.sheet.Sheet.{Sheet}
 use Rattle.season.specs.declared.answers.Reply.{Reply}
 use Rattle.season.specs.declared.answers.Reply.TheVariants.{Day, Year, Nothing}
 use Rattle.season.specs.declared.commands.Command.{Command}

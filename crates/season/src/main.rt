@@ -1,4 +1,6 @@
 // Reads commands, a line each, and writes an answer to each: days and dates in every calendar of the shelf.
+#![tactic(auto)]
+
 mod answers;
 mod commands;
 mod words;

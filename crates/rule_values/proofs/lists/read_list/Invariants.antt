@@ -1,4 +1,4 @@
-use Rattle.std.proofs.Common.{◌≡◌, ◌≤◌, length, replicate}
+use Rattle.std.proofs.Common.{◌≡◌, ◌≤◌, length}
 use Rattle.text.specs.Pieces.{pieces}
 use Rattle.rule_values.proofs.Stored.{stored_from}
 use Rattle.rule_values.proofs.lists.read_list.Given as goal
