@@ -10,7 +10,7 @@ use Rattle.calendar.specs.Shelves.{almanac_at}
 use Rattle.sources.specs.declared.events.Limit.{Limit}
 use Rattle.sources.specs.declared.events.Limit.TheVariants.{Endless, Until, Count}
 use Rattle.rules.specs.Parts.{each_of, codes_in}
-use Rattle.rules.specs.Meaning.{gives}
+use Rattle.rule_parts.specs.Given.{parts_give}
 use Rattle.rule_values.specs.declared.values.ScaleName.{ScaleName}
 use Rattle.rrule.specs.Rule.{Said}
 use Rattle.rrule.specs.Questions.{rule_read}
@@ -59,7 +59,7 @@ within_until (Count n) d = true
 
 -- DTSTART is the first day that the rule gives, UNTIL applied: the rule gives no day before it
 abbrev pub starts_first : Almanac → Said → ℕ → Bool
-starts_first a r start = gives a r.parts start start && within_until r.limit start
+starts_first a r start = parts_give a r.parts start start && within_until r.limit start
 
 abbrev pub ruled : Said → ℕ → Ruled
 ruled r place = record { parts = r.parts; limit = r.limit; place = place; scaled = written r.scale }

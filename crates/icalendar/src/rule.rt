@@ -3,7 +3,8 @@ ghost use Rattle.std.specs.Prelude.{◌≡◌, true, take};
 ghost use Rattle.days.specs.Numbers.{in_range};
 ghost use Rattle.calendar.specs.Shelves.{almanac_at};
 ghost use Rattle.rules.specs.Parts.{each_of};
-ghost use Rattle.rules.specs.Meaning.{gives};
+ghost use Rattle.rule_parts.specs.Making.{parts_of};
+ghost use Rattle.rule_parts.specs.Given.{parts_give};
 ghost use Rattle.rrule.specs.Result.{said_by};
 ghost use Rattle.icalendar.specs.Verdicts.{name_asked, place_named, code_known, within_until, on_calendar, Rules};
 
@@ -76,7 +77,7 @@ fn within_until(limit: Limit, day: u32) -> bool
 // Whether the rule gives DTSTART's own day.
 fn gives_start<'r, S: RuleShelf>(shelf: &'r S, place: usize, rule: &'r Rule, start: u32) -> bool
     requires { in_range start ≡ true }
-    ensures { result ≡ gives (almanac_at (S.Shelf.held shelf.now) place) rule.now.parts start start }
+    ensures { result ≡ parts_give (almanac_at (S.Shelf.held shelf.now) place) (parts_of rule.now) start start }
 {
     match shelf.next_given(place, rule, start, start) {
         Some(day) => day == start,
@@ -96,7 +97,7 @@ pub fn on_calendar<'r, S: RuleShelf>(
     let Some(place) = calendar_asked(shelf, text.scale) else {
         return Err(CalendarQuestion::OnShelf);
     };
-    let months = text.rule.parts.months;
+    let months = text.rule.months;
     if !codes_known(shelf, place, front(&months.at, months.len)) {
         return Err(CalendarQuestion::KnownMonths);
     }

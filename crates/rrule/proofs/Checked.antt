@@ -1,7 +1,8 @@
 -- What is read is within its bounds, and what passes the questions is a rule.
 use Rattle.std.proofs.Common.{◌≡◌, ℕ, Bool, true, false, not, ◌&&◌, ◌||◌, leb, List, [], is_some, Some, None, codes, Option, sym, refl, ap, ◌∙◌, subst, arith}
 use Rattle.std.proofs.lemmas.Bool.{and_from, and_parts}
-use Rattle.rules.specs.Parts.{each_of, code_ok, position_ok, number_ok, codes_in, values_in, weekdays_in, some_of, numbered, takes_numbers, takes_month_days, no_items, lists_fit, numbers_fit, well_formed}
+use Rattle.rules.specs.Parts.{each_of, code_ok, position_ok, number_ok, codes_in, values_in, weekdays_in, some_of, numbered, takes_numbers, takes_month_days, no_items, lists_fit, numbers_fit}
+use Rattle.rule_parts.specs.Making.{fitting}
 use Rattle.rules.specs.declared.parts.Frequency.{Frequency}
 use Rattle.rules.specs.declared.parts.Frequency.TheVariants.{Yearly}
 use Rattle.rules.specs.declared.parts.MonthDays.{MonthDays}
@@ -17,7 +18,7 @@ use Rattle.rrule.specs.declared.values.Values.{Values}
 -- the numbers and the lists are within their bounds
 abbrev bounded : Values → Bool
 bounded v =
-    lists_fit (parts_said Yearly v) && numbers_fit (parts_said Yearly v)
+    lists_fit (the_months v) (the_month_days v) (the_weekdays v) && numbers_fit (the_interval v.interval) (the_months v) (the_month_days v) (the_weekdays v)
 
 said_by : {A : Type 0} (P : A → Type 0) (read : List ℕ → Option A) → ((bs : List ℕ) → IfRead P (read bs)) → (o : Option (List ℕ)) → IfRead P (said read o)
 said_by P read each None = tt
@@ -62,9 +63,9 @@ parts_fit_by f None w h k = and_from _ _ refl k
 parts_fit_by f (Some d) w h k =
     allowed (no_items (values_in d)) (takes_month_days f) (not (some_of (λ b. numbered b.position) (weekdays_in w))) (takes_numbers f) h k
 
-pub well_formed_by : (f : Frequency) (v : Values) (ps : List (List ℕ)) → v ≡ values_of ps → v.frequency ≡ Some f → true ≡ month_days_allowed v → true ≡ numbers_allowed v → well_formed (parts_said f v) ≡ true
+pub well_formed_by : (f : Frequency) (v : Values) (ps : List (List ℕ)) → v ≡ values_of ps → v.frequency ≡ Some f → true ≡ month_days_allowed v → true ≡ numbers_allowed v → fitting (parts_said f v) ≡ true
 well_formed_by f v ps is e h k =
-    let p = and_parts (lists_fit (parts_said Yearly v)) _ (ap bounded is ∙ values_bounded ps) in
+    let p = and_parts (lists_fit (the_months v) (the_month_days v) (the_weekdays v)) _ (ap bounded is ∙ values_bounded ps) in
     and_from _ _ p.0 (and_from _ _ p.1
     (parts_fit_by f v.month_days (the_weekdays v)
     (subst (λ o. (not (is_some v.month_days) || by_frequency takes_month_days o) ≡ true) e (sym h))

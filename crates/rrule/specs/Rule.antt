@@ -6,10 +6,10 @@ use Rattle.rules.specs.declared.parts.Frequency.{Frequency}
 use Rattle.rules.specs.declared.parts.Frequency.TheVariants.{Yearly}
 use Rattle.rules.specs.declared.parts.MonthDays.{MonthDays}
 use Rattle.rules.specs.declared.parts.Months.{Months}
-use Rattle.rules.specs.declared.parts.Parts.{Parts}
 use Rattle.rules.specs.declared.parts.Skip.{Skip}
 use Rattle.rules.specs.declared.parts.Skip.TheVariants.{Omit}
 use Rattle.rules.specs.declared.parts.Weekdays.{Weekdays}
+use Rattle.rule_parts.specs.declared.parts.Parts.{Parts}
 use Rattle.rule_values.specs.declared.values.LastDay.{LastDay}
 use Rattle.rule_values.specs.declared.values.Number.{Number}
 use Rattle.rule_values.specs.declared.values.ScaleName.{ScaleName}

@@ -6,9 +6,11 @@ use Rattle.calendar.specs.Shelves.{almanac_at}
 use Rattle.sources.specs.declared.events.Limit.{Limit}
 use Rattle.sources.specs.declared.events.Limit.TheVariants.{Endless}
 use Rattle.sources.specs.Sets.{single}
-use Rattle.sources.specs.Events.{event_days, Kept as Kept-last}
-use Rattle.rules.specs.declared.parts.Parts.{Parts}
+use Rattle.sources.specs.Events.{event_days, Kept as KeptLast}
 use Rattle.rules.specs.Meaning.{gives}
+use Rattle.rule_parts.specs.declared.parts.Parts.{Parts}
+use Rattle.rule_parts.specs.Making.{parts_of}
+use Rattle.rule_parts.specs.Given.{parts_give}
 use Rattle.vevent.specs.declared.bounded.Bounded.{Bounded}
 use Rattle.vevent.specs.Bounds.{Holds}
 use Rattle.series.specs.declared.record.Recurrence.{Recurrence}
@@ -36,7 +38,7 @@ pub record Accepted : Type 0 where
 
 -- the days of the rule; without one, DTSTART takes its place
 abbrev pub rule_days : List Almanac → Option Ruled → ℕ → ℕ → Bool
-rule_days shelf (Some u) start = gives (almanac_at shelf u.place) u.parts start
+rule_days shelf (Some u) start = parts_give (almanac_at shelf u.place) u.parts start
 rule_days shelf None start = single start
 
 abbrev pub limit_of : Option Ruled → Limit
@@ -49,7 +51,7 @@ days_given shelf e = event_days (rule_days shelf e.ruled e.start) (limit_of e.ru
 -- ── as a series record keeps it ──
 
 abbrev pub ruled_in : Option Recurrence → Option Ruled
-ruled_in (Some r) = Some (record { parts = r.rule.parts; limit = r.limit; place = r.place; scaled = r.scaled })
+ruled_in (Some r) = Some (record { parts = parts_of r.rule; limit = r.limit; place = r.place; scaled = r.scaled })
 ruled_in None = None
 
 -- the days that a series record gives
@@ -60,7 +62,7 @@ series_days shelf s =
 
 -- the last counted day that is kept beside a rule is the right one
 abbrev pub LastRight : List Almanac → ℕ → Option Recurrence → Type 0
-LastRight shelf start (Some r) = Kept-last (gives (almanac_at shelf r.place) r.rule.parts start) r.limit r.last
+LastRight shelf start (Some r) = KeptLast (gives (almanac_at shelf r.place) r.rule start) r.limit r.last
 LastRight shelf start None = Unit {0}
 
 -- what a question to a series needs

@@ -1,6 +1,6 @@
 // The rule that the parts say together.
 ghost use Rattle.std.specs.Prelude.{◌≡◌, true, Some};
-ghost use Rattle.rules.specs.Parts.{well_formed};
+ghost use Rattle.rule_parts.specs.Making.{fitting};
 ghost use Rattle.rrule.specs.Result.{said_by};
 ghost use Rattle.rrule.specs.Rule.{rule_of, parts_said};
 
@@ -9,14 +9,14 @@ use crate::values::{
     Values, interval_or_one, limit, month_days_or_none, months_or_none, weekdays_or_none,
 };
 use days::weekday::Weekday;
-use rules::{Frequency, Parts, Rule, Skip};
+use rules::{Frequency, Rule, Skip};
 
 // The rule of values that pass every question.
 pub fn rule_text(values: &Values, frequency: Frequency) -> RuleText
-    requires { (values.now.frequency ≡ Some frequency) × (well_formed (parts_said frequency values.now) ≡ true) }
+    requires { (values.now.frequency ≡ Some frequency) × (fitting (parts_said frequency values.now) ≡ true) }
     ensures { said_by result ≡ rule_of values.now }
 {
-    let parts = Parts {
+    let rule = Rule {
         frequency,
         interval: interval_or_one(values.interval),
         week_start: values.week_start.unwrap_or(Weekday::Monday),
@@ -26,7 +26,7 @@ pub fn rule_text(values: &Values, frequency: Frequency) -> RuleText
         weekdays: weekdays_or_none(values.weekdays),
     };
     RuleText {
-        rule: Rule { parts },
+        rule,
         limit: limit(values.count, values.until),
         scale: values.scale,
     }

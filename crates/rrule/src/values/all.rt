@@ -12,8 +12,8 @@ pub fn well_valued<B: Bytes>(rule: B) -> bool
     ensures { result ≡ well_valued (parts (B.Bytes.left rule)) }
 {
     in_form::<rules::Frequency, B>(rule, b"FREQ")
-        && in_form::<NumberForm<999>, B>(rule, b"INTERVAL")
-        && in_form::<NumberForm<9999>, B>(rule, b"COUNT")
+        && in_form::<rule_values::Number<999>, B>(rule, b"INTERVAL")
+        && in_form::<rule_values::Number<9999>, B>(rule, b"COUNT")
         && in_form::<rule_values::LastDay, B>(rule, b"UNTIL")
         && in_form::<days::weekday::Weekday, B>(rule, b"WKST")
         && in_form::<rule_values::ScaleName, B>(rule, b"RSCALE")
