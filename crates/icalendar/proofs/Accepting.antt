@@ -1,16 +1,14 @@
 -- An event that passes every question, and the record that keeps it.
-use Rattle.std.proofs.Common.{◌≡◌, ℕ, true, List, take, Some, None, Ok, Err, codes, Option, Result, sym, refl, ap, ◌∙◌, subst, MatchOption}
-use Rattle.days.specs.Numbers.{in_range}
+use Rattle.std.proofs.Common.{◌≡◌, ℕ, List, Some, None, Ok, Err, codes, Option, Result, sym, subst, MatchOption}
 use Rattle.calendar.specs.Sheets.{Almanac}
 use Rattle.components.specs.Events.{Event, picked}
 use Rattle.vevent.specs.declared.bounded.Bounded.{Bounded}
 use Rattle.vevent.specs.declared.questions.EventFault.{EventFault}
 use Rattle.vevent.specs.Bounds.{Holds}
 use Rattle.vevent.specs.Questions.{asked, first_failed}
-use Rattle.vevent.specs.Kept.{start_of, rdates, exdates, title_of}
-use Rattle.series.specs.declared.record.Recurrence.{Recurrence}
+use Rattle.vevent.specs.Kept.{start_of}
 use Rattle.series.specs.declared.record.Series.{Series}
-use Rattle.series.specs.Record.{Ruled, Accepted, Keeps, Ready, Titled, ruled_in, LastRight}
+use Rattle.series.specs.Record.{Ruled, Accepted, Keeps, Titled, ruled_in, LastRight}
 use Rattle.icalendar.specs.declared.fault.Fault.{Fault}
 use Rattle.icalendar.specs.declared.fault.Failed.TheVariants.{Event as EventFailed}
 use Rattle.icalendar.specs.Verdicts.{verdict, started, kept, or_fault, rule_among, failed_at, Says, RulesOrNone}

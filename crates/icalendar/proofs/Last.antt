@@ -1,7 +1,6 @@
 -- The last question on a file, once the others are passed.
-use Rattle.std.proofs.Common.{◌≡◌, ℕ, Bool, true, false, cond, Some, None, Option, Result, sym, refl, ap, ◌∙◌}
+use Rattle.std.proofs.Common.{◌≡◌, ℕ, Bool, true, false, cond, Some, None, Option, sym, refl, ap, ◌∙◌}
 use Rattle.std.specs.Option.{ok_or}
-use Rattle.icalendar.specs.declared.file.FileQuestion.{FileQuestion}
 use Rattle.icalendar.specs.declared.file.FileQuestion.TheVariants.{Size, LineEnds, LineForms, Nesting}
 use Rattle.icalendar.specs.Files.{unless_failed}
 

@@ -1,11 +1,11 @@
 -- The first calendar that bears a name, by the shelf's search and by the definition.
-use Rattle.std.proofs.Common.{◌≡◌, ℕ, zero, suc, ◌+◌, ◌-◌, ◌<◌, ◌≤◌, Bool, true, false, cond, eqb, leb, List, [], ◌∷◌, map, length, Some, None, Option, sym, refl, ap, ◌∙◌, ⊎_elim, arith}
+use Rattle.std.proofs.Common.{◌≡◌, ℕ, zero, suc, ◌-◌, true, false, eqb, List, [], ◌∷◌, map, Some, None, Option, sym, refl, ap, ◌∙◌, ⊎_elim, arith}
 use Rattle.std.specs.Char.{to_ascii_uppercase, to_ascii_lowercase}
 use Rattle.std.proofs.lemmas.Bool.{cond-true, cond-false, cases_Bool, and_parts, and_from, eqb-true, eq-eqb}
 use Rattle.std.proofs.lemmas.Bool.Decides.{nat_tests}
 use Rattle.text.specs.Letters.{alike, same}
 use Rattle.calendar.specs.Sheets.{Almanac}
-use Rattle.calendar.specs.Shelves.{almanac_at, Bears, FirstBearing, Found}
+use Rattle.calendar.specs.Shelves.{almanac_at, Bears, Found}
 use Rattle.icalendar.specs.Verdicts.{place_named, further}
 
 -- a letter is the same in capitals exactly if it is the same in small letters

@@ -1,5 +1,5 @@
 -- Reading a file event by event.
-use Rattle.std.proofs.Common.{◌≡◌, ℕ, ◌≤◌, Bool, true, false, cond, leb, List, [], ◌∷◌, ◌++◌, map, length, Some, None, Ok, Err, Option, Result, sym, refl, ap, ◌∙◌, arith}
+use Rattle.std.proofs.Common.{◌≡◌, ℕ, ◌≤◌, Bool, true, false, cond, leb, List, [], ◌∷◌, ◌++◌, map, length, Some, None, Ok, Option, Result, sym, refl, ap, ◌∙◌, arith}
 use lib.Seq.{append_snoc}
 use Rattle.std.proofs.lemmas.Bool.{leb-true}
 use Rattle.calendar.specs.Sheets.{Almanac}
@@ -10,7 +10,7 @@ use Rattle.icalendar.specs.declared.fault.Fault.{Fault}
 use Rattle.icalendar.specs.declared.file.FileQuestion.{FileQuestion}
 use Rattle.icalendar.specs.declared.file.FileQuestion.TheVariants.{Size}
 use Rattle.icalendar.specs.Files.{asked, first_failed, unless_failed, file_read, events_of}
-use Rattle.icalendar.specs.Verdicts.{Says, verdict}
+use Rattle.icalendar.specs.Verdicts.{Says}
 use Rattle.icalendar.specs.Read.{AllSay}
 
 -- one more says its verdict

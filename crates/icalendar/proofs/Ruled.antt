@@ -1,5 +1,5 @@
 -- A rule that is read, and what is asked of its calendar.
-use Rattle.std.proofs.Common.{◌≡◌, ℕ, List, ◌∷◌, Some, Ok, Err, Option, Result, sym, ap, ◌∙◌, subst, arith}
+use Rattle.std.proofs.Common.{◌≡◌, ℕ, List, ◌∷◌, Some, Ok, Err, Option, Result, sym, ap, subst}
 use Rattle.calendar.specs.Sheets.{Almanac}
 use Rattle.lines.specs.Lines.{Line}
 use Rattle.lines.specs.Property.{value}

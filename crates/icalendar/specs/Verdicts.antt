@@ -17,7 +17,6 @@ use Rattle.rrule.specs.Questions.{rule_read}
 use Rattle.series.specs.declared.record.Recurrence.{Recurrence}
 use Rattle.vevent.specs.Questions.{asked, first_failed}
 use Rattle.vevent.specs.Kept.{start_of, rdates, exdates, title_of}
-use Rattle.vevent.specs.declared.questions.EventFault.{EventFault}
 use Rattle.series.specs.declared.record.Series.{Series}
 use Rattle.series.specs.Record.{Ruled, Accepted, Keeps, ruled_in, LastRight}
 use Rattle.icalendar.specs.declared.fault.CalendarQuestion.{CalendarQuestion}

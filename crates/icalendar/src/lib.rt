@@ -1,4 +1,6 @@
 // Files of events: the questions on a file, and what becomes of each of its events over a shelf of calendars.
+#![tactic(auto)]
+
 mod fault;
 mod file;
 mod read;

@@ -4,7 +4,6 @@ use Rattle.std.proofs.lemmas.Bool.{and_from, and_parts}
 use Rattle.rules.specs.Parts.{each_of, code_ok, position_ok, number_ok, codes_in, values_in, weekdays_in, some_of, numbered, takes_numbers, takes_month_days, no_items, lists_fit, numbers_fit}
 use Rattle.rule_parts.specs.Making.{fitting}
 use Rattle.rules.specs.declared.parts.Frequency.{Frequency}
-use Rattle.rules.specs.declared.parts.Frequency.TheVariants.{Yearly}
 use Rattle.rules.specs.declared.parts.MonthDays.{MonthDays}
 use Rattle.rules.specs.declared.parts.Weekdays.{Weekdays}
 use Rattle.rule_values.specs.declared.values.Number.{Number}

@@ -1,5 +1,5 @@
 -- The parts of a rule, between semicolons: each a name and a value around its first `=`. Letter case is ignored.
-use Rattle.std.specs.Prelude.{ℕ, Bool, true, false, cond, not, ◌&&◌, List, [], ◌∷◌, is_some, Some, None, codes, Option}
+use Rattle.std.specs.Prelude.{ℕ, Bool, true, cond, not, ◌&&◌, List, [], ◌∷◌, is_some, Some, None, codes, Option}
 use Rattle.rules.specs.Parts.{some_of, each_of}
 use Rattle.text.specs.Letters.{same}
 use Rattle.text.specs.Pieces.{up_to, past, has, pieces}

@@ -1,5 +1,5 @@
 -- The questions asked of a rule in their order, and what its text says: the fault of the first that fails, or every field of the rule.
-use Rattle.std.specs.Prelude.{ℕ, Bool, true, false, cond, not, ◌&&◌, ◌||◌, List, [], ◌∷◌, is_some, Some, None, Ok, Err, Option, Result}
+use Rattle.std.specs.Prelude.{ℕ, Bool, false, cond, not, ◌&&◌, ◌||◌, List, [], ◌∷◌, is_some, Some, None, Ok, Err, Option, Result}
 use Rattle.rules.specs.Parts.{some_of, numbered, takes_numbers, takes_month_days, weekdays_in}
 use Rattle.rules.specs.declared.parts.Frequency.{Frequency}
 use Rattle.rrule.specs.declared.fault.RuleFault.{RuleFault}

@@ -1,12 +1,10 @@
 -- What the parts of a rule say together: every field of the rule.
 use Rattle.std.specs.Prelude.{ℕ, Bool, ◌&&◌, List, [], Some, None, codes, Option}
-use Rattle.days.specs.declared.weekday.Weekday.{Weekday}
 use Rattle.days.specs.declared.weekday.Weekday.TheVariants.{Monday}
 use Rattle.rules.specs.declared.parts.Frequency.{Frequency}
 use Rattle.rules.specs.declared.parts.Frequency.TheVariants.{Yearly}
 use Rattle.rules.specs.declared.parts.MonthDays.{MonthDays}
 use Rattle.rules.specs.declared.parts.Months.{Months}
-use Rattle.rules.specs.declared.parts.Skip.{Skip}
 use Rattle.rules.specs.declared.parts.Skip.TheVariants.{Omit}
 use Rattle.rules.specs.declared.parts.Weekdays.{Weekdays}
 use Rattle.rule_parts.specs.declared.parts.Parts.{Parts}

@@ -1,4 +1,6 @@
 // The text of an RRULE: a checked rule, or the first question that it fails.
+#![tactic(auto)]
+
 mod fault;
 mod named;
 mod rule;

@@ -1,2 +1,2 @@
-mod Every
+pub mod Every
 pub mod Given

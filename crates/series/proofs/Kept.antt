@@ -1,11 +1,11 @@
 -- A series record gives the days of the event that it keeps.
-use Rattle.std.proofs.Common.{◌≡◌, ℕ, ◌-◌, List, ◌++◌, length, take, replicate, sym, ap, ◌∙◌}
+use Rattle.std.proofs.Common.{◌≡◌, ℕ, ◌-◌, List, length, take, replicate, ap, ◌∙◌}
 use lib.Seq.{take-append_seam}
 use Rattle.calendar.specs.Sheets.{Almanac}
 use Rattle.sources.specs.Events.{event_days}
 use Rattle.vevent.specs.Bounds.{Holds}
 use Rattle.series.specs.declared.record.Series.{Series}
-use Rattle.series.specs.Record.{Accepted, Ruled, Keeps, rule_days, limit_of, ruled_in, series_days, days_given}
+use Rattle.series.specs.Record.{Accepted, Keeps, rule_days, limit_of, ruled_in, series_days, days_given}
 
 -- the places in use are the entries
 pub entries : {X : Type 0} (n : ℕ) (empty : X) (at xs : List X) (len : ℕ) → Holds n empty at len xs → take len at ≡ xs

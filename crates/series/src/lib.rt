@@ -1,4 +1,6 @@
 // Series: what is kept of an accepted event, and its days.
+#![tactic(auto)]
+
 mod days_of;
 mod record;
 

@@ -16,11 +16,8 @@ impl<B: Bytes> UpTo<B> {
     pub fn new(inner: B, mark: u8) -> UpTo<B>
         ensures { (if result.ended then [] else up_to result.mark (B.Bytes.left result.inner)) ≡ up_to mark (B.Bytes.left inner) }
     {
-        UpTo {
-            inner,
-            mark,
-            ended: false,
-        }
+        let ended = false;
+        UpTo { inner, mark, ended }
     }
 }
 

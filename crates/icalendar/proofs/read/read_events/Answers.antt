@@ -1,5 +1,4 @@
-use Rattle.std.proofs.Common.{List, [], ◌∷◌, ◌++◌, sym, ap, ◌∙◌, arith}
-use Rattle.lines.specs.Lines.{Line}
+use Rattle.std.proofs.Common.{[], ◌∷◌, ◌++◌, ap, arith}
 use Rattle.components.specs.Events.{event_at, events}
 use Rattle.icalendar.specs.Verdicts.{verdict}
 use Rattle.icalendar.proofs.Reading.{say_next, on_to_next}

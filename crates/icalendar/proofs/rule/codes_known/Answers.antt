@@ -1,5 +1,5 @@
 use Rattle.calendar.specs.Shelves.{almanac_at}
-use Rattle.rules.proofs.Tests.{fails_here, fails_not, fails_none}
+use Rattle.rule_parts.proofs.Every.{fails_here, fails_not, fails_none}
 use Rattle.icalendar.specs.Verdicts.{code_known}
 use Rattle.icalendar.proofs.rule.codes_known.Goals as goal
 

@@ -1,4 +1,4 @@
-use Rattle.std.proofs.Common.{◌≡◌, ℕ, true, sym, refl, ap, ◌∙◌, subst}
+use Rattle.std.proofs.Common.{◌≡◌, ℕ, true, sym, refl, subst}
 use Rattle.days.specs.Numbers.{in_range}
 use Rattle.components.specs.Events.{event_at}
 use Rattle.vevent.specs.Kept.{title_of}

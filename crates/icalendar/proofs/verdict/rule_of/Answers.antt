@@ -1,6 +1,5 @@
 use Rattle.std.proofs.Common.{List, Ok, Err, codes, sym, ap, ◌∙◌}
 use Rattle.lines.specs.Lines.{Line}
-use Rattle.lines.specs.View.{line_of}
 use Rattle.components.specs.Events.{picked, own}
 use Rattle.icalendar.proofs.Ruled.{among}
 use Rattle.icalendar.proofs.verdict.rule_of.Goals as goal
