@@ -1,7 +1,7 @@
 -- From computed tests to the laws: an almanac whose years pass the tests, and that is silent outside them, is lawful.
 use Rattle.std.proofs.Common.{◌≡◌, ℕ, zero, suc, ◌+◌, ◌-◌, ◌^◌, ◌<◌, ◌≤◌, Bool, true, false, not, ◌&&◌, ◌||◌, eqb, ltb, leb, ◌⊎◌, List, [], ◌∷◌, length, get_or, drop, replicate, sym, refl, ap, ◌∙◌, subst, inl, inr, ⊎_elim, le_of_suc-le-suc, not-suc-le-zero, add-one, arith, length-drop, length-take-le}
 use Rattle.std.specs.Str.{bytes_eq}
-use Rattle.std.specs.List.{AllByRecursion as All}
+use Rattle.std.specs.List.{AllByRecursion}
 use Rattle.std.proofs.ByRecursion.{All-get_or}
 use Rattle.std.proofs.lemmas.Slice.Eq.{bytes_eq-Decides}
 use Rattle.std.proofs.lemmas.Bool.{leb-true, ltb-true, eqb-true, and_parts, or_cases, cases_lt, both_ways, not-true}
@@ -28,7 +28,7 @@ abbrev pub all : {X : Type 0} → (X → Bool) → List X → Bool
 all f [] = true
 all f (x ∷ xs) = f x && all f xs
 
-pub each : {X : Type 0} (f : X → Bool) (P : X → Type 0) → ((x : X) → f x ≡ true → P x) → (xs : List X) → all f xs ≡ true → All P xs
+pub each : {X : Type 0} (f : X → Bool) (P : X → Type 0) → ((x : X) → f x ≡ true → P x) → (xs : List X) → all f xs ≡ true → AllByRecursion P xs
 each f P says [] t = tt
 each f P says (x ∷ xs) t = let parts = and_parts (f x) (all f xs) t in (says x parts.0, each f P says xs parts.1)
 
@@ -36,15 +36,15 @@ each f P says (x ∷ xs) t = let parts = and_parts (f x) (all f xs) t in (says x
 abbrev pub passed : List Bool → Bool
 passed ts = all (λ b. b) ts
 
-pub each_passed : (ts : List Bool) → passed ts ≡ true → All (λ b. b ≡ true) ts
+pub each_passed : (ts : List Bool) → passed ts ≡ true → AllByRecursion (λ b. b ≡ true) ts
 each_passed ts t = each (λ b. b) (λ b. b ≡ true) (λ b e. e) ts t
 
-repeated : {X : Type 0} (x : X) (xs : List X) → All (λ y. y ≡ x) xs → xs ≡ replicate (length xs) x
+repeated : {X : Type 0} (x : X) (xs : List X) → AllByRecursion (λ y. y ≡ x) xs → xs ≡ replicate (length xs) x
 repeated x [] h = refl
 repeated x (y ∷ ys) h = ap (λ z. z ∷ ys) h.0 ∙ ap (λ zs. x ∷ zs) (repeated x ys h.1)
 
 -- what stands from place n on in a list of thirteen, if it is x everywhere
-rest : {X : Type 0} (x : X) (n : ℕ) (xs : List X) → length xs ≡ 13 → All (λ y. y ≡ x) (drop n xs) → drop n xs ≡ replicate (13 - n) x
+rest : {X : Type 0} (x : X) (n : ℕ) (xs : List X) → length xs ≡ 13 → AllByRecursion (λ y. y ≡ x) (drop n xs) → drop n xs ≡ replicate (13 - n) x
 rest x n xs e h = repeated x (drop n xs) h ∙ ap (λ m. replicate m x) (length-drop n xs ∙ ap (λ m. m - n) e)
 
 -- The tests of a sheet.
@@ -139,7 +139,7 @@ sheet_tests leaps top s =
 pub record Good (leaps : ℕ → Bool) (top : ℕ) (s : Sheet) : Type 0 where
   pub months : (s.months ≡ 12) ⊎ (s.months ≡ 13)
   pub thirteen : Thirteen s
-  pub lengths : All (λ n. (1 ≤ n) × (n ≤ 31)) (lengths_of s)
+  pub lengths : AllByRecursion (λ n. (1 ≤ n) × (n ≤ 31)) (lengths_of s)
   pub long : 350 ≤ days_of s
   pub short : days_of s ≤ 385
   pub from : 693000 ≤ s.first
@@ -206,10 +206,10 @@ pub record Tested (a : Almanac) : Type 0 where
   pub computed : passed (tests a) ≡ true
 
 module _ (a : Almanac) (t : Tested a) where
-  parts : All (λ b. b ≡ true) (tests a)
+  parts : AllByRecursion (λ b. b ≡ true) (tests a)
   parts = each_passed (tests a) t.computed
 
-  bound : All (λ b. b ≡ true) (bounds a)
+  bound : AllByRecursion (λ b. b ≡ true) (bounds a)
   bound = each_passed (bounds a) parts.0
 
   ordered : a.lowest ≤ a.highest

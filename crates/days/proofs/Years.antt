@@ -1,6 +1,6 @@
 -- The years of the Gregorian calendar: each begins where the one before it ends, and a date is a day of one year.
 use Rattle.std.proofs.Common.{◌≡◌, ℕ, ◌+◌, ◌-◌, ◌<◌, ◌≤◌, true, false, List, Some, None, Option, sym, refl, ap, ◌∙◌, subst, ⊎_elim, arith, rules}
-use Rattle.std.specs.List.{AllByRecursion as All}
+use Rattle.std.specs.List.{AllByRecursion}
 use Rattle.std.proofs.ByRecursion.{All-get_or}
 use Rattle.std.proofs.lemmas.Bool.{cases_lt, cases_Bool, cond-true, cond-false, and_parts, leb-true}
 use Rattle.std.proofs.lemmas.Bool.Decides.{nat_tests}
@@ -149,7 +149,7 @@ no_day lengths y m d e c =
     none_unless _ (λ n s. none_some _ (c.only (n - new_year y) (simp e (dated y m d n s).falls)))
 
 -- no month has more than 31 days
-months_most : (y : ℕ) → All (λ n. n ≤ 31) (month_lengths y)
+months_most : (y : ℕ) → AllByRecursion (λ n. n ≤ 31) (month_lengths y)
 months_most y = search rules
 
 -- how large the numbers of a date can be

@@ -1,6 +1,6 @@
 -- The form of a line: the machine and the parts speak of the same line.
 use Rattle.std.proofs.Common.{◌≡◌, ℕ, true, false, cond, ◌&&◌, ◌||◌, eqb, ◌≢◌, List, [], ◌∷◌, ◌++◌, map, sym, refl, ap, ◌∙◌, append_assoc, append-nil, arith}
-use Rattle.std.specs.List.{AllByRecursion as All}
+use Rattle.std.specs.List.{AllByRecursion}
 use Rattle.std.proofs.lemmas.Bool.{cond-true, cond-false, cond_both, and_left, or_from, both_ways, false≢true, eqb-true, eqb-false, ne_eqb}
 use Rattle.lines.specs.Property.{name_byte, name, parameters, value, after, piece}
 use Rattle.lines.specs.Machine.{run, well_formed}
@@ -13,12 +13,12 @@ apart : (b mark : ℕ) → name_byte mark ≡ false → name_byte b ≡ true →
 apart b mark n y = ne_eqb b mark (λ e. both_ways (name_byte mark) n (sym (ap name_byte e) ∙ y))
 
 -- what is not changed by bytes of one kind in front is not changed by many
-passes : {X : Type 0} (F : List ℕ → X) (P : ℕ → Type 0) → ((b : ℕ) (bs : List ℕ) → P b → F (b ∷ bs) ≡ F bs) → (n bs : List ℕ) → All P n → F (n ++ bs) ≡ F bs
+passes : {X : Type 0} (F : List ℕ → X) (P : ℕ → Type 0) → ((b : ℕ) (bs : List ℕ) → P b → F (b ∷ bs) ≡ F bs) → (n bs : List ℕ) → AllByRecursion P n → F (n ++ bs) ≡ F bs
 passes F P one [] bs h = refl
 passes F P one (b ∷ n) bs h = one b (n ++ bs) h.0 ∙ passes F P one n bs h.1
 
 -- the same for a parameter's text, with F outside quotes and G inside
-passes_text : {X : Type 0} (F G : List ℕ → X) → ((b : ℕ) (bs : List ℕ) → SoundItem (Plain b) → F (b ∷ bs) ≡ F bs) → ((bs : List ℕ) → F (34 ∷ bs) ≡ G bs) → ((b : ℕ) (bs : List ℕ) → b ≢ 34 → G (b ∷ bs) ≡ G bs) → ((bs : List ℕ) → G (34 ∷ bs) ≡ F bs) → (t : List Item) (bs : List ℕ) → All SoundItem t → F (spelled t ++ bs) ≡ F bs
+passes_text : {X : Type 0} (F G : List ℕ → X) → ((b : ℕ) (bs : List ℕ) → SoundItem (Plain b) → F (b ∷ bs) ≡ F bs) → ((bs : List ℕ) → F (34 ∷ bs) ≡ G bs) → ((b : ℕ) (bs : List ℕ) → b ≢ 34 → G (b ∷ bs) ≡ G bs) → ((bs : List ℕ) → G (34 ∷ bs) ≡ F bs) → (t : List Item) (bs : List ℕ) → AllByRecursion SoundItem t → F (spelled t ++ bs) ≡ F bs
 passes_text F G plain opens inside closes [] bs h = refl
 passes_text F G plain opens inside closes (Plain b ∷ t) bs h = plain b (spelled t ++ bs) h.0 ∙ passes_text F G plain opens inside closes t bs h.1
 passes_text F G plain opens inside closes (Quoted q ∷ t) bs h =
@@ -46,7 +46,7 @@ text_on b bs h =
 quoted_on : (b : ℕ) (bs : List ℕ) → b ≢ 34 → run at.Quoted (b ∷ bs) ≡ run at.Quoted bs
 quoted_on b bs h = cond-false (eqb b 34) _ _ (ne_eqb b 34 h)
 
-run_text : (t : List Item) (bs : List ℕ) → All SoundItem t → run at.Text (spelled t ++ bs) ≡ run at.Text bs
+run_text : (t : List Item) (bs : List ℕ) → AllByRecursion SoundItem t → run at.Text (spelled t ++ bs) ≡ run at.Text bs
 run_text t bs h = passes_text (run at.Text) (run at.Quoted) text_on (λ _. refl) quoted_on (λ _. refl) t bs h
 
 -- a whole name, and the machine's first step into it
@@ -60,11 +60,11 @@ run_parameter p bs h =
     ∙ run_name at.ParamStart at.ParamName (λ b xs y. cond-true (name_byte b) _ _ y) param_on p.name (61 ∷ (spelled p.text ++ bs)) h.0
     ∙ run_text p.text bs h.1
 
-run_after : (ps : List Parameter) (v : List ℕ) → All SoundParameter ps → run at.Text (after_name ps v) ≡ true
+run_after : (ps : List Parameter) (v : List ℕ) → AllByRecursion SoundParameter ps → run at.Text (after_name ps v) ≡ true
 run_after [] v h = refl
 run_after (p ∷ ps) v h = run_parameter p (after_name ps v) h.0 ∙ run_after ps v h.1
 
-run_after_name : (ps : List Parameter) (v : List ℕ) → All SoundParameter ps → run at.Name (after_name ps v) ≡ true
+run_after_name : (ps : List Parameter) (v : List ℕ) → AllByRecursion SoundParameter ps → run at.Name (after_name ps v) ≡ true
 run_after_name [] v h = refl
 run_after_name (p ∷ ps) v h = run_parameter p (after_name ps v) h.0 ∙ run_after ps v h.1
 
@@ -74,7 +74,7 @@ stands p h =
     ∙ run_after_name p.parameters p.value h.1
 
 -- the name
-ends_name : (n bs : List ℕ) → All (λ b. name_byte b ≡ true) n → name bs ≡ [] → name (n ++ bs) ≡ n
+ends_name : (n bs : List ℕ) → AllByRecursion (λ b. name_byte b ≡ true) n → name bs ≡ [] → name (n ++ bs) ≡ n
 ends_name [] bs h e = e
 ends_name (b ∷ n) bs h e = cond-true (name_byte b) _ _ h.0 ∙ ap (λ m. b ∷ m) (ends_name n bs h.1 e)
 
@@ -89,7 +89,7 @@ named p h = ends_name p.name (after_name p.parameters p.value) h.0.1 (no_name p.
 value_plain : (b : ℕ) (bs : List ℕ) → eqb b 34 ≡ false → eqb b 58 ≡ false → after false 58 (b ∷ bs) ≡ after false 58 bs
 value_plain b bs q c = cond-false (eqb b 34) _ _ q ∙ cond-false (eqb b 58 && true) _ _ (and_left (eqb b 58) true c)
 
-value_name : (n bs : List ℕ) → All (λ b. name_byte b ≡ true) n → after false 58 (n ++ bs) ≡ after false 58 bs
+value_name : (n bs : List ℕ) → AllByRecursion (λ b. name_byte b ≡ true) n → after false 58 (n ++ bs) ≡ after false 58 bs
 value_name n bs h = passes (after false 58) (λ b. name_byte b ≡ true) (λ b xs y. value_plain b xs (apart b 34 refl y) (apart b 58 refl y)) n bs h
 
 inside_on : (b : ℕ) (bs : List ℕ) → b ≢ 34 → after true 58 (b ∷ bs) ≡ after true 58 bs
@@ -97,11 +97,11 @@ inside_on b bs h =
     cond-false (eqb b 34) _ _ (ne_eqb b 34 h)
     ∙ elim (eqb b 58) as (λ t. cond (t && false) bs (after true 58 bs) ≡ after true 58 bs) [ true ↦ refl | false ↦ refl ]
 
-value_text : (t : List Item) (bs : List ℕ) → All SoundItem t → after false 58 (spelled t ++ bs) ≡ after false 58 bs
+value_text : (t : List Item) (bs : List ℕ) → AllByRecursion SoundItem t → after false 58 (spelled t ++ bs) ≡ after false 58 bs
 value_text t bs h =
     passes_text (after false 58) (after true 58) (λ b xs s. value_plain b xs (ne_eqb b 34 s.0) (ne_eqb b 58 s.1)) (λ _. refl) inside_on (λ _. refl) t bs h
 
-value_after : (ps : List Parameter) (v : List ℕ) → All SoundParameter ps → after false 58 (after_name ps v) ≡ v
+value_after : (ps : List Parameter) (v : List ℕ) → AllByRecursion SoundParameter ps → after false 58 (after_name ps v) ≡ v
 value_after [] v h = refl
 value_after (p ∷ ps) v h =
     ap (after false 58) (whole p (after_name ps v))
@@ -117,19 +117,19 @@ piece_plain : (b : ℕ) (bs : List ℕ) → eqb b 34 ≡ false → eqb b 58 ≡ 
 piece_plain b bs q c s =
     cond-false (eqb b 34) _ _ q ∙ cond-false ((eqb b 58 || eqb b 59) && true) _ _ (and_left (eqb b 58 || eqb b 59) true (or_from (eqb b 58) (eqb b 59) c s))
 
-piece_name : (n bs : List ℕ) → All (λ b. name_byte b ≡ true) n → piece false (n ++ bs) ≡ n ++ piece false bs
+piece_name : (n bs : List ℕ) → AllByRecursion (λ b. name_byte b ≡ true) n → piece false (n ++ bs) ≡ n ++ piece false bs
 piece_name [] bs h = refl
 piece_name (b ∷ n) bs h =
     piece_plain b (n ++ bs) (apart b 34 refl h.0) (apart b 58 refl h.0) (apart b 59 refl h.0) ∙ ap (λ m. b ∷ m) (piece_name n bs h.1)
 
-piece_inside : (q bs : List ℕ) → All (λ b. b ≢ 34) q → piece true (q ++ bs) ≡ q ++ piece true bs
+piece_inside : (q bs : List ℕ) → AllByRecursion (λ b. b ≢ 34) q → piece true (q ++ bs) ≡ q ++ piece true bs
 piece_inside [] bs h = refl
 piece_inside (b ∷ q) bs h =
     cond-false (eqb b 34) _ _ (ne_eqb b 34 h.0)
     ∙ elim (eqb b 58 || eqb b 59) as (λ t. cond (t && false) [] (b ∷ piece true (q ++ bs)) ≡ b ∷ piece true (q ++ bs)) [ true ↦ refl | false ↦ refl ]
     ∙ ap (λ m. b ∷ m) (piece_inside q bs h.1)
 
-piece_text : (t : List Item) (bs : List ℕ) → All SoundItem t → piece false (spelled t ++ bs) ≡ spelled t ++ piece false bs
+piece_text : (t : List Item) (bs : List ℕ) → AllByRecursion SoundItem t → piece false (spelled t ++ bs) ≡ spelled t ++ piece false bs
 piece_text [] bs h = refl
 piece_text (Plain b ∷ t) bs h =
     piece_plain b (spelled t ++ bs) (ne_eqb b 34 h.0.0) (ne_eqb b 58 h.0.1) (ne_eqb b 59 h.0.2) ∙ ap (λ m. b ∷ m) (piece_text t bs h.1)
@@ -154,7 +154,7 @@ parameters_plain : (b : ℕ) (bs : List ℕ) → eqb b 34 ≡ false → eqb b 58
 parameters_plain b bs q c s =
     cond-false (eqb b 34) _ _ q ∙ cond-false (eqb b 58 && true) _ _ (and_left (eqb b 58) true c) ∙ cond-false (eqb b 59 && true) _ _ (and_left (eqb b 59) true s)
 
-parameters_name : (n bs : List ℕ) → All (λ b. name_byte b ≡ true) n → parameters false (n ++ bs) ≡ parameters false bs
+parameters_name : (n bs : List ℕ) → AllByRecursion (λ b. name_byte b ≡ true) n → parameters false (n ++ bs) ≡ parameters false bs
 parameters_name n bs h =
     passes (parameters false) (λ b. name_byte b ≡ true) (λ b xs y. parameters_plain b xs (apart b 34 refl y) (apart b 58 refl y) (apart b 59 refl y)) n bs h
 
@@ -166,11 +166,11 @@ parameters_inside b bs h =
       | false ↦ elim (eqb b 59) as (λ u. cond (u && false) (piece false bs ∷ parameters true bs) (parameters true bs) ≡ parameters true bs) [ true ↦ refl | false ↦ refl ]
     ]
 
-parameters_text : (t : List Item) (bs : List ℕ) → All SoundItem t → parameters false (spelled t ++ bs) ≡ parameters false bs
+parameters_text : (t : List Item) (bs : List ℕ) → AllByRecursion SoundItem t → parameters false (spelled t ++ bs) ≡ parameters false bs
 parameters_text t bs h =
     passes_text (parameters false) (parameters true) (λ b xs s. parameters_plain b xs (ne_eqb b 34 s.0) (ne_eqb b 58 s.1) (ne_eqb b 59 s.2)) (λ _. refl) parameters_inside (λ _. refl) t bs h
 
-parameters_after : (ps : List Parameter) (v : List ℕ) → All SoundParameter ps → parameters false (after_name ps v) ≡ map parameter_bytes ps
+parameters_after : (ps : List Parameter) (v : List ℕ) → AllByRecursion SoundParameter ps → parameters false (after_name ps v) ≡ map parameter_bytes ps
 parameters_after [] v h = refl
 parameters_after (p ∷ ps) v h =
     ap (λ x. x ∷ parameters false (parameter_bytes p ++ after_name ps v)) (piece_parameter p ps v h.0)
@@ -185,19 +185,19 @@ with_parameters p h = parameters_name p.name (after_name p.parameters p.value) h
 
 -- Back: what a line is made of, from where the machine is. After the name; in a parameter's text, inside quotes or not; in a name
 Rest : List ℕ → Type 0
-Rest bs = (ps : List Parameter) × (v : List ℕ) × All SoundParameter ps × (bs ≡ after_name ps v)
+Rest bs = (ps : List Parameter) × (v : List ℕ) × AllByRecursion SoundParameter ps × (bs ≡ after_name ps v)
 
 InText : List ℕ → Type 0
-InText bs = (t : List Item) × (r : List ℕ) × All SoundItem t × Rest r × (bs ≡ spelled t ++ r)
+InText bs = (t : List Item) × (r : List ℕ) × AllByRecursion SoundItem t × Rest r × (bs ≡ spelled t ++ r)
 
 InQuotes : List ℕ → Type 0
-InQuotes bs = (q : List ℕ) × (r : List ℕ) × All (λ b. b ≢ 34) q × InText r × (bs ≡ q ++ (34 ∷ r))
+InQuotes bs = (q : List ℕ) × (r : List ℕ) × AllByRecursion (λ b. b ≢ 34) q × InText r × (bs ≡ q ++ (34 ∷ r))
 
 InParameter : List ℕ → Type 0
-InParameter bs = (n : List ℕ) × (r : List ℕ) × All (λ b. name_byte b ≡ true) n × InText r × (bs ≡ n ++ (61 ∷ r))
+InParameter bs = (n : List ℕ) × (r : List ℕ) × AllByRecursion (λ b. name_byte b ≡ true) n × InText r × (bs ≡ n ++ (61 ∷ r))
 
 InName : List ℕ → Type 0
-InName bs = (n : List ℕ) × (r : List ℕ) × All (λ b. name_byte b ≡ true) n × Rest r × (bs ≡ n ++ r)
+InName bs = (n : List ℕ) × (r : List ℕ) × AllByRecursion (λ b. name_byte b ≡ true) n × Rest r × (bs ≡ n ++ r)
 
 Ahead : State → List ℕ → Type 0
 Ahead at.Start bs = (b : ℕ) × (xs : List ℕ) × (name_byte b ≡ true) × InName xs × (bs ≡ b ∷ xs)

@@ -1,6 +1,6 @@
 -- A file and its physical lines: written out and read back.
 use Rattle.std.proofs.Common.{◌≡◌, ℕ, ◌<◌, Bool, true, false, not, ◌&&◌, ◌||◌, eqb, ◌≢◌, List, [], ◌∷◌, ◌++◌, length, refl, ap, ◌∙◌, arith}
-use Rattle.std.specs.List.{AllByRecursion as All}
+use Rattle.std.specs.List.{AllByRecursion}
 use Rattle.std.proofs.lemmas.Bool.{cond-false, cond_both, and_left, and_parts, or_from, or_parts, not-true, false≢true, eqb-true, eqb-false, ne_eqb}
 use Rattle.lines.specs.Lines.{crlf, glued, physical_lines}
 use Rattle.lines.specs.Ended.{proper, well_ended}
@@ -17,7 +17,7 @@ past_line s [] bs h = refl
 past_line s (a ∷ []) bs h = past s a 13 (10 ∷ bs) h.0.0 h.0.1
 past_line s (a ∷ b ∷ l) bs h = past s a b (l ++ (13 ∷ 10 ∷ bs)) h.0.0 h.0.1 ∙ past_line false (b ∷ l) bs h.1
 
-past_lines : (ls : List (List ℕ)) → All Unbroken ls → proper true (written ls) ≡ true
+past_lines : (ls : List (List ℕ)) → AllByRecursion Unbroken ls → proper true (written ls) ≡ true
 past_lines [] h = refl
 past_lines (l ∷ ls) h = past_line true l (written ls) h.0 ∙ past_lines ls h.1
 
@@ -25,7 +25,7 @@ begun : (l bs : List ℕ) → well_ended (l ++ (13 ∷ bs)) ≡ proper true (l +
 begun [] bs = refl
 begun (a ∷ l) bs = refl
 
-stands : (ls : List (List ℕ)) → 0 < length ls → All Unbroken ls → well_ended (written ls) ≡ true
+stands : (ls : List (List ℕ)) → 0 < length ls → AllByRecursion Unbroken ls → well_ended (written ls) ≡ true
 stands [] n h = absurd (omega arith)
 stands (l ∷ ls) n h = begun l (10 ∷ written ls) ∙ past_lines (l ∷ ls) h
 
@@ -35,13 +35,13 @@ first [] bs h = refl
 first (a ∷ []) bs h = cond-false (crlf a 13) _ _ (and_left (eqb a 13) false (ne_eqb a 13 h.0.0))
 first (a ∷ b ∷ l) bs h = cond-false (crlf a b) _ _ (and_left (eqb a 13) (eqb b 10) (ne_eqb a 13 h.0.0)) ∙ ap (glued a) (first (b ∷ l) bs h.1)
 
-pub all_lines : (ls : List (List ℕ)) → All Unbroken ls → physical_lines (written ls) ≡ ls
+pub all_lines : (ls : List (List ℕ)) → AllByRecursion Unbroken ls → physical_lines (written ls) ≡ ls
 all_lines [] h = refl
 all_lines (l ∷ ls) h = first l (written ls) h.0 ∙ ap (λ ms. l ∷ ms) (all_lines ls h.1)
 
 -- back: bytes that end well are lines
 OfLines : List ℕ → Type 0
-OfLines bs = (l : List ℕ) × (ls : List (List ℕ)) × Unbroken l × All Unbroken ls × (bs ≡ written (l ∷ ls))
+OfLines bs = (l : List ℕ) × (ls : List (List ℕ)) × Unbroken l × AllByRecursion Unbroken ls × (bs ≡ written (l ∷ ls))
 
 marks : (a b : ℕ) (bs : List ℕ) → crlf a b ≡ true → a ∷ b ∷ bs ≡ 13 ∷ 10 ∷ bs
 marks a b bs y = let q = and_parts (eqb a 13) (eqb b 10) y in ap (λ c. c ∷ b ∷ bs) (eqb-true a 13 q.0) ∙ ap (λ c. 13 ∷ c ∷ bs) (eqb-true b 10 q.1)
@@ -64,7 +64,7 @@ apart s a (b ∷ c ∷ bs) e =
     (λ _ f. longer a (b ∷ c ∷ bs) (proper false (b ∷ c ∷ bs)) f (apart false b (c ∷ bs) (and_parts (not (eqb a 13 || eqb a 10)) (proper false (b ∷ c ∷ bs)) f).1))
     e
 
-only : (bs : List ℕ) → well_ended bs ≡ true → (ls : List (List ℕ)) × (0 < length ls) × All Unbroken ls × (bs ≡ written ls)
+only : (bs : List ℕ) → well_ended bs ≡ true → (ls : List (List ℕ)) × (0 < length ls) × AllByRecursion Unbroken ls × (bs ≡ written ls)
 unfolding OfLines
 only [] e = absurd (false≢true e)
 only (a ∷ bs) e = let (l, ls, h, k, e1) = apart true a bs e in (l ∷ ls, omega arith, (h, k), e1)

@@ -1,7 +1,7 @@
 -- Texts: letter by letter, and piece by piece.
 use Rattle.std.proofs.Common.{◌≡◌, ℕ, true, false, eqb, List, [], ◌∷◌, ◌++◌, map, refl, ap, ◌∙◌, ⊎_elim, arith}
 use Rattle.std.specs.Char.{to_ascii_uppercase}
-use Rattle.std.specs.List.{AllByRecursion as All}
+use Rattle.std.specs.List.{AllByRecursion}
 use Rattle.std.proofs.lemmas.Bool.{cond-true, cond-false, cases_Bool, and_parts, and_from, or_left, or_right, or_from, false≢true, eqb-true, eqb-false, eq-eqb, ne_eqb}
 use Rattle.text.specs.Letters.{alike, same}
 use Rattle.text.specs.Pieces.{up_to, past, has, onto_first, pieces}
@@ -34,7 +34,7 @@ longer mark b p [] = refl
 longer mark b p (q ∷ ps) = refl
 
 InPieces : ℕ → List ℕ → Type 0
-InPieces mark bs = (p : List ℕ) × (ps : List (List ℕ)) × Piece mark p × All (Piece mark) ps × (bs ≡ separated mark p ps)
+InPieces mark bs = (p : List ℕ) × (ps : List (List ℕ)) × Piece mark p × AllByRecursion (Piece mark) ps × (bs ≡ separated mark p ps)
 
 more : (mark b : ℕ) (bs : List ℕ) → InPieces mark bs → InPieces mark (b ∷ bs)
 unfolding InPieces
@@ -57,7 +57,7 @@ next : (mark : ℕ) (p bs : List ℕ) → Piece mark p → pieces mark (p ++ (ma
 next mark [] bs h = cond-true (eqb mark mark) _ _ (eq-eqb mark mark refl)
 next mark (b ∷ p) bs h = cond-false (eqb b mark) _ _ (ne_eqb b mark h.0) ∙ ap (onto_first b) (next mark p bs h.1)
 
-stands : (mark : ℕ) (p : List ℕ) (ps : List (List ℕ)) → Piece mark p → All (Piece mark) ps → pieces mark (separated mark p ps) ≡ p ∷ ps
+stands : (mark : ℕ) (p : List ℕ) (ps : List (List ℕ)) → Piece mark p → AllByRecursion (Piece mark) ps → pieces mark (separated mark p ps) ≡ p ∷ ps
 stands mark p [] h k = last mark p h
 stands mark p (q ∷ ps) h k = next mark p (separated mark q ps) h ∙ ap (λ qs. p ∷ qs) (stands mark q ps k.0 k.1)
 
@@ -85,7 +85,7 @@ others mark (b ∷ p) bs h =
     let (y, e) = others mark p bs h.1 in
     (or_right (eqb b mark) (has mark (p ++ (mark ∷ bs))) y, cond-false (eqb b mark) _ _ (ne_eqb b mark h.0) ∙ e)
 
-only : (mark : ℕ) (bs : List ℕ) → (p : List ℕ) × (ps : List (List ℕ)) × Piece mark p × All (Piece mark) ps × (bs ≡ separated mark p ps)
+only : (mark : ℕ) (bs : List ℕ) → (p : List ℕ) × (ps : List (List ℕ)) × Piece mark p × AllByRecursion (Piece mark) ps × (bs ≡ separated mark p ps)
 unfolding InPieces
 only mark bs = apart mark bs
 

@@ -1,6 +1,6 @@
 -- Logical lines: the groups that physical lines fall into, and what is read of each.
 use Rattle.std.proofs.Common.{◌≡◌, ℕ, ◌+◌, true, false, List, [], ◌∷◌, ◌++◌, length, drop, sym, refl, ap, ◌∙◌, ⊎_elim, append-nil, arith}
-use Rattle.std.specs.List.{AllByRecursion as All}
+use Rattle.std.specs.List.{AllByRecursion}
 use Rattle.std.proofs.lemmas.Bool.{cond-true, cond-false, cases_Bool, false≢true}
 use Rattle.lines.specs.Lines.{blank, go_on, longer, joined, logical_lines}
 use Rattle.file_laws.specs.Physical.{Unbroken, written}
@@ -27,7 +27,7 @@ groups [] = ([], (tt, tt), refl)
 groups (l ∷ ls) = let (os, gs, h, e) = first_group l ls in (record { first = l; others = os } ∷ gs, h, e)
 
 -- one group put together, before lines that do not continue it
-one : (os : List (List ℕ)) (p : ℕ) (l : List ℕ) (ls : List (List ℕ)) → All (λ o. continues o ≡ true) os → go_on ls ≡ false → joined p (l ∷ (os ++ ls)) ≡ record { place = p; text = l ++ unfolded os } ∷ joined (p + (1 + length os)) ls
+one : (os : List (List ℕ)) (p : ℕ) (l : List ℕ) (ls : List (List ℕ)) → AllByRecursion (λ o. continues o ≡ true) os → go_on ls ≡ false → joined p (l ∷ (os ++ ls)) ≡ record { place = p; text = l ++ unfolded os } ∷ joined (p + (1 + length os)) ls
 one [] p l ls h e = cond-false (go_on ls) _ _ e ∙ ap (λ t. record { place = p; text = t } ∷ joined (p + 1) ls) (sym (append-nil l))
 one ([] ∷ os) p l ls h e = absurd (false≢true h.0)
 one ((b ∷ o) ∷ os) p l ls h e =
@@ -40,11 +40,11 @@ goes : (l : List ℕ) (ls : List (List ℕ)) → go_on (l ∷ ls) ≡ continues 
 goes [] ls = refl
 goes (b ∷ l) ls = refl
 
-no_more : (gs : List Group) → All (λ g. continues g.first ≡ false) gs → go_on (all_physical gs) ≡ false
+no_more : (gs : List Group) → AllByRecursion (λ g. continues g.first ≡ false) gs → go_on (all_physical gs) ≡ false
 no_more [] h = refl
 no_more (g ∷ gs) h = goes g.first (g.others ++ all_physical gs) ∙ h.0
 
-later : (gs : List Group) → All (λ g. continues g.first ≡ false) gs → All (λ g. continues g.first ≡ false) (drop 1 gs)
+later : (gs : List Group) → AllByRecursion (λ g. continues g.first ≡ false) gs → AllByRecursion (λ g. continues g.first ≡ false) (drop 1 gs)
 later [] h = tt
 later (g ∷ gs) h = h.1
 
@@ -56,7 +56,7 @@ all (g ∷ gs) n h =
     ∙ ap (λ p. record { place = n + 1; text = logical g } ∷ joined p (all_physical gs)) k
     ∙ ap (λ ls. record { place = n + 1; text = logical g } ∷ ls) (all gs (n + length (physical g)) (h.0.1, later gs h.1))
 
-lines : (gs : List Group) → Grouped gs → All Unbroken (all_physical gs) → logical_lines (written (all_physical gs)) ≡ all_logical 0 gs
+lines : (gs : List Group) → Grouped gs → AllByRecursion Unbroken (all_physical gs) → logical_lines (written (all_physical gs)) ≡ all_logical 0 gs
 lines gs h u = ap (joined 1) (all_lines (all_physical gs) u) ∙ all gs 0 h
 
 pub unfolding_law : Unfolding

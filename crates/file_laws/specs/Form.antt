@@ -1,6 +1,6 @@
 -- The form of a line: a name, parameters that each begin with a semicolon, and a colon before the value.
 use Rattle.std.specs.Prelude.{◌≡◌, ℕ, ◌<◌, true, false, ◌≢◌, List, [], ◌∷◌, ◌++◌, map, length}
-use Rattle.std.specs.List.{AllByRecursion as All}
+use Rattle.std.specs.List.{AllByRecursion}
 use Rattle.lines.specs.Property.{name_byte, name, parameters, value}
 use Rattle.lines.specs.Machine.{well_formed}
 
@@ -19,7 +19,7 @@ equals = 61
 
 -- a name: a letter, digit or hyphen, or more of them
 abbrev pub IsName : List ℕ → Type 0
-IsName n = (0 < length n) × All (λ b. name_byte b ≡ true) n
+IsName n = (0 < length n) × AllByRecursion (λ b. name_byte b ≡ true) n
 
 -- a parameter's text, item by item: a byte that is no quote, colon or semicolon, or bytes that are no quotes between two quotes
 pub data Item : Type 0 where
@@ -28,7 +28,7 @@ pub data Item : Type 0 where
 
 abbrev pub SoundItem : Item → Type 0
 SoundItem (Plain b) = (b ≢ quote) × (b ≢ colon) × (b ≢ semicolon)
-SoundItem (Quoted bs) = All (λ b. b ≢ quote) bs
+SoundItem (Quoted bs) = AllByRecursion (λ b. b ≢ quote) bs
 
 abbrev pub spelled : List Item → List ℕ
 spelled [] = []
@@ -40,7 +40,7 @@ pub record Parameter : Type 0 where
   pub text : List Item
 
 abbrev pub SoundParameter : Parameter → Type 0
-SoundParameter p = IsName p.name × All SoundItem p.text
+SoundParameter p = IsName p.name × AllByRecursion SoundItem p.text
 
 abbrev pub parameter_bytes : Parameter → List ℕ
 parameter_bytes p = p.name ++ (equals ∷ spelled p.text)
@@ -52,7 +52,7 @@ pub record Parts : Type 0 where
   pub value : List ℕ
 
 abbrev pub Sound : Parts → Type 0
-Sound p = IsName p.name × All SoundParameter p.parameters
+Sound p = IsName p.name × AllByRecursion SoundParameter p.parameters
 
 abbrev pub after_name : List Parameter → List ℕ → List ℕ
 after_name [] v = colon ∷ v

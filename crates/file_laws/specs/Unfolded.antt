@@ -1,6 +1,6 @@
 -- A file's logical lines: its physical lines in groups, each a line and the lines that continue it.
 use Rattle.std.specs.Prelude.{◌≡◌, ℕ, ◌+◌, Bool, true, false, List, [], ◌∷◌, ◌++◌, length, drop}
-use Rattle.std.specs.List.{AllByRecursion as All}
+use Rattle.std.specs.List.{AllByRecursion}
 use Rattle.lines.specs.Lines.{Line, blank, logical_lines}
 use Rattle.file_laws.specs.Physical.{Unbroken, written}
 
@@ -15,7 +15,7 @@ continues (b ∷ l) = blank b
 
 -- in each group the others continue it, and no group but the first of the file begins with a line that continues
 abbrev pub Grouped : List Group → Type 0
-Grouped gs = All (λ g. All (λ l. continues l ≡ true) g.others) gs × All (λ g. continues g.first ≡ false) (drop 1 gs)
+Grouped gs = AllByRecursion (λ g. AllByRecursion (λ l. continues l ≡ true) g.others) gs × AllByRecursion (λ g. continues g.first ≡ false) (drop 1 gs)
 
 abbrev pub physical : Group → List (List ℕ)
 physical g = g.first ∷ g.others
@@ -40,4 +40,4 @@ all_logical n (g ∷ gs) = record { place = n + 1; text = logical g } ∷ all_lo
 -- all physical lines fall into such groups, and a file's logical lines are those of its groups
 pub record Unfolding : Type 0 where
   pub groups : (ls : List (List ℕ)) → (gs : List Group) × Grouped gs × (ls ≡ all_physical gs)
-  pub lines : (gs : List Group) → Grouped gs → All Unbroken (all_physical gs) → logical_lines (written (all_physical gs)) ≡ all_logical 0 gs
+  pub lines : (gs : List Group) → Grouped gs → AllByRecursion Unbroken (all_physical gs) → logical_lines (written (all_physical gs)) ≡ all_logical 0 gs

@@ -1,3 +1,4 @@
 pub mod Order
 pub mod Heap
 pub mod Steps
+pub mod Numbers

@@ -6,6 +6,7 @@ ghost use Rattle.std.specs.declared.cmp.Ordering.{Ordering};
 ghost use Rattle.std.specs.List.Sorted.{IsPermutation};
 ghost use Rattle.std.specs.Ordering.{is_lt};
 ghost use Rattle.queue.specs.Order.{Strict};
+ghost use Rattle.queue.specs.Numbers.{nat_strict};
 ghost use Rattle.queue.specs.Heap.{Heaped, Popped, FirstFrom};
 ghost use Rattle.queue.specs.Steps.{HeapedBut, Leads};
 ghost use Rattle.std.proofs.Common.{rules};
@@ -26,7 +27,7 @@ pub trait Entry: Ord + Copy {
 impl Entry for u32 {
     ghost before = { nat_lt };
 
-    ghost order = { Prim.search rules };
+    ghost order = { nat_strict };
 
     ghost says = { Prim.search rules };
 }

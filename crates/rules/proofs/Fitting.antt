@@ -1,6 +1,6 @@
 -- What a rule's parts are, by the test that every rule has passed.
 use Rattle.std.proofs.Common.{◌≡◌, ℕ, ◌≤◌, true, ◌&&◌, leb}
-use Rattle.std.specs.List.{AllByRecursion as All}
+use Rattle.std.specs.List.{AllByRecursion}
 use Rattle.std.proofs.lemmas.Bool.{and_parts, leb-true}
 use Rattle.calendar.specs.declared.sheet.MonthCode.{MonthCode}
 use Rattle.rules.specs.declared.checked.Rule.{Rule}
@@ -55,17 +55,17 @@ module _ (r : Rule) where
   elements_ok : (each_of code_ok (by_month r) && (each_of (position_ok 31) (by_month_day r) && each_of (λ b. number_ok b.position) (by_day r))) ≡ true
   elements_ok = (and_parts (leb 1 r.interval && leb r.interval 999) _ numbers_ok).1
 
-  pub codes_some : All (λ c. (1 ≤ c.number) × (c.number ≤ 13)) (by_month r)
+  pub codes_some : AllByRecursion (λ c. (1 ≤ c.number) × (c.number ≤ 13)) (by_month r)
   codes_some =
       each_all (λ c. (1 ≤ c.number) × (c.number ≤ 13)) code_ok code_fits (by_month r) (and_parts (each_of code_ok (by_month r)) _ elements_ok).0
 
   -- no value of BYMONTHDAY is 0, and none is above 31
-  pub values_some : All (λ v. (1 ≤ number_of v) × (number_of v ≤ 31)) (by_month_day r)
+  pub values_some : AllByRecursion (λ v. (1 ≤ number_of v) × (number_of v ≤ 31)) (by_month_day r)
   values_some =
       each_all (λ v. (1 ≤ number_of v) × (number_of v ≤ 31)) (position_ok 31) (position_fits 31) (by_month_day r)
       (and_parts (each_of (position_ok 31) (by_month_day r)) _ (and_parts (each_of code_ok (by_month r)) _ elements_ok).1).0
 
-  pub positions_ok : All (λ b. number_ok b.position ≡ true) (by_day r)
+  pub positions_ok : AllByRecursion (λ b. number_ok b.position ≡ true) (by_day r)
   positions_ok =
       each_all (λ b. number_ok b.position ≡ true) (λ b. number_ok b.position) (λ b e. e) (by_day r)
       (and_parts (each_of (position_ok 31) (by_month_day r)) _ (and_parts (each_of code_ok (by_month r)) _ elements_ok).1).1

@@ -1,6 +1,6 @@
 -- What the searches by tests say: of the numbers below a bound, of a list's elements, and of the first that passes.
 use Rattle.std.proofs.Common.{◌≡◌, ℕ, zero, suc, ◌+◌, ◌<◌, ◌≤◌, Bool, true, false, cond, ◌⊎◌, List, [], ◌∷◌, length, get_or, Some, None, sym, refl, ap, ◌∙◌, subst, inl, inr, ⊎_elim, le_of_suc-le-suc, not-suc-le-zero, arith}
-use Rattle.std.specs.List.{AllByRecursion as All}
+use Rattle.std.specs.List.{AllByRecursion}
 use Rattle.std.proofs.lemmas.Bool.{cases_lt, cases_Bool, and_parts, or_left, or_right, or_from, or_cases, true≢false}
 use Rattle.rules.specs.Parts.{some_of, each_of}
 use Rattle.rules.specs.Meaning.{some_below, first_from}
@@ -46,7 +46,7 @@ of_found f (x ∷ xs) d t =
     (or_cases (f x) (some_of f xs) t)
 
 -- what holds of every element that passes and has P holds if one passes
-pub of_some : {X : Type 0} (Q : Type 0) (P : X → Type 0) (f : X → Bool) → ((x : X) → P x → f x ≡ true → Q) → (xs : List X) → All P xs → some_of f xs ≡ true → Q
+pub of_some : {X : Type 0} (Q : Type 0) (P : X → Type 0) (f : X → Bool) → ((x : X) → P x → f x ≡ true → Q) → (xs : List X) → AllByRecursion P xs → some_of f xs ≡ true → Q
 of_some Q P f h [] a t = absurd (true≢false (sym t))
 of_some Q P f h (x ∷ xs) a t = ⊎_elim (λ e. h x a.0 e) (λ e. of_some Q P f h xs a.1 e) (or_cases (f x) (some_of f xs) t)
 
@@ -54,12 +54,12 @@ pub of_any : {X : Type 0} (Q : Type 0) (f : X → Bool) → ((x : X) → f x ≡
 of_any Q f h [] t = absurd (true≢false (sym t))
 of_any Q f h (x ∷ xs) t = ⊎_elim (λ e. h x e) (λ e. of_any Q f h xs e) (or_cases (f x) (some_of f xs) t)
 
-pub of_none : {X : Type 0} (f : X → Bool) (xs : List X) → All (λ x. f x ≡ false) xs → some_of f xs ≡ false
+pub of_none : {X : Type 0} (f : X → Bool) (xs : List X) → AllByRecursion (λ x. f x ≡ false) xs → some_of f xs ≡ false
 of_none f [] a = refl
 of_none f (x ∷ xs) a = or_from (f x) (some_of f xs) a.0 (of_none f xs a.1)
 
 -- every element passes
-pub each_all : {X : Type 0} (P : X → Type 0) (f : X → Bool) → ((x : X) → f x ≡ true → P x) → (xs : List X) → each_of f xs ≡ true → All P xs
+pub each_all : {X : Type 0} (P : X → Type 0) (f : X → Bool) → ((x : X) → f x ≡ true → P x) → (xs : List X) → each_of f xs ≡ true → AllByRecursion P xs
 each_all P f h [] t = tt
 each_all P f h (x ∷ xs) t = let p = and_parts (f x) (each_of f xs) t in (h x p.0, each_all P f h xs p.1)
 
