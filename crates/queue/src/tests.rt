@@ -1,6 +1,7 @@
 // Structs of two and of three fields are entries by their derived order alone.
 ghost use Rattle.std.specs.Prelude.{if◌then◌else◌, nat_eq, nat_lt};
 ghost use Rattle.std.proofs.Common.{rules};
+ghost use Rattle.queue.specs.Numbers.{pair_strict, triple_strict};
 
 use super::*;
 
@@ -14,7 +15,7 @@ struct Due {
 impl Entry for Due {
     ghost before = { λ x y. (if nat_eq x.day y.day then nat_lt x.series y.series else nat_lt x.day y.day) };
 
-    ghost order = { Prim.search rules };
+    ghost order = { pair_strict (λ x. x.day) (λ x. x.series) (λ x y d s i. record { day = d i; series = s i }) };
 
     ghost says = { Prim.search rules };
 }
@@ -30,7 +31,7 @@ struct Call {
 impl Entry for Call {
     ghost before = { λ x y. (if nat_eq x.day y.day then (if nat_eq x.minute y.minute then nat_lt x.series y.series else nat_lt x.minute y.minute) else nat_lt x.day y.day) };
 
-    ghost order = { Prim.search rules };
+    ghost order = { triple_strict (λ x. x.day) (λ x. x.minute) (λ x. x.series) (λ x y d m s i. record { day = d i; minute = m i; series = s i }) };
 
     ghost says = { Prim.search rules };
 }
