@@ -1,7 +1,7 @@
 -- The number of a failed question, and the letter of its layer: E for the event, R for the rule, C for the calendar.
 use Rattle.std.specs.Prelude.{ℕ}
-use Rattle.vevent.specs.Questions.{number as event-number}
-use Rattle.rrule.specs.Faults.{number as rule-number}
+use Rattle.vevent.specs.Questions.{number as event_number}
+use Rattle.rrule.specs.Faults.{number as rule_number}
 use Rattle.icalendar.specs.declared.fault.CalendarQuestion.{CalendarQuestion}
 use Rattle.icalendar.specs.declared.fault.CalendarQuestion.TheVariants.{OnShelf, KnownMonths, StartIsFirst}
 use Rattle.icalendar.specs.declared.fault.Failed.{Failed}
@@ -13,8 +13,8 @@ calendar_number KnownMonths = 37
 calendar_number StartIsFirst = 41
 
 abbrev pub number : Failed → ℕ
-number (Event q) = event-number q
-number (Rule f) = rule-number f
+number (Event q) = event_number q
+number (Rule f) = rule_number f
 number (Calendar q) = calendar_number q
 
 -- the letter's byte
