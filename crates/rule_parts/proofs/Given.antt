@@ -5,8 +5,9 @@ use Rattle.std.proofs.Math.Path.{fun_ext}
 use Rattle.calendar.specs.Sheets.{Almanac}
 use Rattle.rules.specs.declared.checked.Rule.{Rule}
 use Rattle.rules.specs.Meaning.{gives}
+use Rattle.rule_parts.specs.declared.parts.Parts.{Parts}
 use Rattle.rule_parts.specs.Making.{fitting, parts_of}
-use Rattle.rule_parts.specs.Given.{rule_from, given_where, parts_give}
+use Rattle.rule_parts.specs.Given.{rule_from, given_where, parts_give, PartsSay}
 
 where_true : (a : Almanac) (r : Rule) (start n : ℕ) (b : Bool) (e : fitting (parts_of r) ≡ b) → b ≡ true → given_where a (parts_of r) b e start n ≡ gives a r start n
 where_true a r start n true e t =
@@ -19,3 +20,10 @@ parts_as_rule a r start n = where_true a r start n (fitting (parts_of r)) refl r
 -- and so for the set of its days
 pub same_set : (a : Almanac) (r : Rule) (start : ℕ) → gives a r start ≡ parts_give a (parts_of r) start
 same_set a r start = sym (fun_ext (λ n. parts_as_rule a r start n))
+
+where_false : (a : Almanac) (p : Parts) (start n : ℕ) (b : Bool) (e : fitting p ≡ b) → b ≡ false → given_where a p b e start n ≡ false
+where_false a p start n true e t = cc
+where_false a p start n false e t = refl
+
+pub parts_say : PartsSay
+parts_say = record { checked = parts_as_rule; unfit = λ a p start n e. where_false a p start n (fitting p) refl e }

@@ -3,5 +3,8 @@
 
 mod making;
 mod parts;
+mod theorem;
 
+pub use making::{some_numbered, takes_month_days, takes_numbers};
 pub use parts::Parts;
+pub use theorem::parts_say;

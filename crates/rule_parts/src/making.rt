@@ -76,7 +76,8 @@ fn numbers_ok(list: &[ByDay]) -> bool
     true
 }
 
-fn some_numbered(list: &[ByDay]) -> bool
+// Whether one of the weekdays has a number.
+pub fn some_numbered(list: &[ByDay]) -> bool
     ensures { result ≡ some_of (λ b. numbered b.position) list.now }
 {
     for by_day in list {
@@ -88,7 +89,7 @@ fn some_numbered(list: &[ByDay]) -> bool
 }
 
 // Whether numbered weekdays stand with the frequency.
-fn takes_numbers(frequency: Frequency) -> bool
+pub fn takes_numbers(frequency: Frequency) -> bool
     ensures { result ≡ takes_numbers frequency }
 {
     match frequency {
@@ -98,7 +99,7 @@ fn takes_numbers(frequency: Frequency) -> bool
 }
 
 // Whether BYMONTHDAY stands with the frequency.
-fn takes_month_days(frequency: Frequency) -> bool
+pub fn takes_month_days(frequency: Frequency) -> bool
     ensures { result ≡ takes_month_days frequency }
 {
     match frequency {

@@ -1,11 +1,11 @@
 // The questions about what the parts of a rule say together.
 ghost use Rattle.std.specs.Prelude.{◌≡◌, true, Some, nat_le};
-ghost use Rattle.rules.specs.Parts.{some_of, numbered, takes_numbers, takes_month_days};
 ghost use Rattle.rrule.specs.Questions.{one_limit, skip_with_scale, month_days_allowed, numbers_allowed};
 ghost use Rattle.rrule.specs.Rule.{the_weekdays};
 
 use crate::values::{Values, weekdays_or_none};
-use rules::{ByDay, Frequency};
+use rule_parts::{some_numbered, takes_month_days, takes_numbers};
+use rules::Frequency;
 
 // Whether COUNT and UNTIL are not both there.
 pub fn one_limit(values: &Values) -> bool
@@ -21,47 +21,12 @@ pub fn skip_with_scale(values: &Values) -> bool
     values.skip.is_none() || values.scale.is_some()
 }
 
-fn takes_month_days(frequency: Frequency) -> bool
-    ensures { result ≡ takes_month_days frequency }
-{
-    match frequency {
-        Frequency::Yearly | Frequency::Monthly | Frequency::Daily => true,
-        Frequency::Weekly => false,
-    }
-}
-
-fn takes_numbers(frequency: Frequency) -> bool
-    ensures { result ≡ takes_numbers frequency }
-{
-    match frequency {
-        Frequency::Yearly | Frequency::Monthly => true,
-        Frequency::Weekly | Frequency::Daily => false,
-    }
-}
-
 // Whether BYMONTHDAY stands only with a frequency that takes it.
 pub fn month_days_allowed(values: &Values, frequency: Frequency) -> bool
     requires { values.now.frequency ≡ Some frequency }
     ensures { result ≡ month_days_allowed values.now }
 {
     values.month_days.is_none() || takes_month_days(frequency)
-}
-
-fn is_numbered(day: ByDay) -> bool
-    ensures { result ≡ numbered day.position }
-{
-    day.position.is_some()
-}
-
-fn some_numbered(list: &[ByDay]) -> bool
-    ensures { result ≡ some_of (λ d. numbered d.position) list.now }
-{
-    for day in list {
-        if is_numbered(*day) {
-            return true;
-        }
-    }
-    false
 }
 
 // Whether numbered weekdays stand only with a frequency that takes them, and without BYMONTHDAY.
