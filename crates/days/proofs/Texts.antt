@@ -9,7 +9,7 @@ use Rattle.days.specs.declared.digits.DateFault.TheVariants.{Length, NoDigit, No
 use Rattle.days.specs.Numbers.{in_range}
 use Rattle.days.specs.Gregorian.{day_of_date, DateOf}
 use Rattle.days.specs.Digits.{digit, first_other, year_of, month_of, day_of, or_no_such_day, day_named, date_read, values_named, values_read, last_digit, date_text, Written}
-use Rattle.days.proofs.Years.{none_some, some_same, date_bounds}
+use Rattle.days.proofs.Years.{date_bounds}
 
 -- eight bytes, each a digit
 pub record Eight (bs : List ℕ) : Type 0 where
@@ -26,7 +26,7 @@ first_digit i b bs e =
     ⊎_elim
     (λ (t : digit b ≡ true).
     ((grind (arith, nat_tests), grind (arith, nat_tests)), sym (cond-true (digit b) (first_other (i + 1) bs) (Some i) t) ∙ e))
-    (λ (t : digit b ≡ false). absurd (none_some i (sym e ∙ cond-false (digit b) (first_other (i + 1) bs) (Some i) t)))
+    (λ (t : digit b ≡ false). let s = sym e ∙ cond-false (digit b) (first_other (i + 1) bs) (Some i) t in cc)
     (cases_Bool (digit b))
 
 all_digits : (i : ℕ) (bs : List ℕ) → first_other i bs ≡ None → (k : ℕ) → k < length bs → Digit (get_or bs k 0)
@@ -67,14 +67,14 @@ or_okOr None = refl
 
 some_named : (o : Option ℕ) (n : ℕ) → or_no_such_day o ≡ Ok n → o ≡ Some n
 some_named (Some m) n e = cc
-some_named None n e = let z : ◌≡◌ {A = ℕ} 0 1 = cc in absurd (omega arith)
+some_named None n e = cc
 
 -- an answer of f that is given for eight digits only
 eight_true : {X : Type 0} (f : Option ℕ → Result X DateFault) → ((i : ℕ) → f (Some i) ≡ Err (NoDigit i)) →
     (b : Bool) (o : Option ℕ) (x : X) → cond b (f o) (Err Length) ≡ Ok x → (b ≡ true) × (o ≡ None) × (f None ≡ Ok x)
-eight_true f h true (Some i) x e = let k = h i in let z : ◌≡◌ {A = ℕ} 0 1 = cc in absurd (omega arith)
+eight_true f h true (Some i) x e = let k = h i in cc
 eight_true f h true None x e = (refl, refl, e)
-eight_true f h false o x e = let z : ◌≡◌ {A = ℕ} 0 1 = cc in absurd (omega arith)
+eight_true f h false o x e = cc
 
 eight_asked : {X : Type 0} (f : Option ℕ → Result X DateFault) → ((i : ℕ) → f (Some i) ≡ Err (NoDigit i)) →
     (bs : List ℕ) (x : X) → cond (eqb (length bs) 8) (f (first_other 0 bs)) (Err Length) ≡ Ok x → Eight bs × (f None ≡ Ok x)
@@ -184,10 +184,12 @@ written_some n y m d r i h e =
     let b = date_bounds y m d n s in
     record {
       reads = λ bs f.
-          let t = sym (some_same _ _ f) ∙ e in
+          let g : r ≡ bs = cc in
+          let t = sym g ∙ e in
           (i, rw t (sym (day_read (date_text y m d) y m d (text_eight y m d) (text_year y m d b.0) (text_month y m d b.1) (text_day y m d b.2)) ∙ ap (λ o. ok_or o NoSuchDay) s));
       only = λ bs j f.
           let k = named bs n f in
-          let t = some_same _ _ (h.only (year_of bs) (month_of bs) (day_of bs) k.1) in
+          let o = h.only (year_of bs) (month_of bs) (day_of bs) k.1 in
+          let t : ◌≡◌ {A = ℕ × ℕ × ℕ} (y, m, d) (year_of bs, month_of bs, day_of bs) = cc in
           ap Some (e ∙ ap (λ (t : ℕ × ℕ × ℕ). date_text t.0 t.1 t.2) t ∙ text_only bs k.0);
     }

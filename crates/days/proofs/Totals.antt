@@ -1,26 +1,27 @@
 -- What the lengths of a year's months say of its days: sums of months, and that each day falls in just one place.
-use Rattle.std.proofs.Common.{◌≡◌, ℕ, zero, suc, ◌+◌, ◌-◌, ◌<◌, ◌≤◌, List, [], ◌∷◌, length, get_or, take, sym, refl, ap, ◌∙◌, ⊎_elim, not-suc-le-zero, add_assoc, add-one, arith}
-use Rattle.std.proofs.lemmas.List.{take_all}
+use Rattle.std.proofs.Common.{◌≡◌, ℕ, zero, suc, ◌+◌, ◌-◌, ◌<◌, ◌≤◌, List, [], ◌∷◌, length, get_or, take, sym, ap, ◌∙◌, ⊎_elim, not-suc-le-zero, arith}
+use Rattle.std.proofs.lemmas.List.{take_all, get_or_past}
+use Rattle.std.proofs.lemmas.List.Sums.{sum_by-cons, sum_by_more}
 use Rattle.std.proofs.lemmas.Bool.{cases_lt}
 use Rattle.days.specs.Months.{total, before, length_at, Falls}
 
-total_suc : (xs : List ℕ) (i : ℕ) → total (take (suc i) xs) ≡ total (take i xs) + get_or xs i 0
-total_suc [] zero = refl
-total_suc [] (suc i) = refl
-total_suc (x ∷ xs) zero = omega arith
-total_suc (x ∷ xs) (suc i) = ap (λ n. x + n) (total_suc xs i) ∙ sym (add_assoc x (total (take i xs)) (get_or xs i 0))
-
 -- one month more
 pub total_more : (xs : List ℕ) (i : ℕ) → total (take (i + 1) xs) ≡ total (take i xs) + get_or xs i 0
-total_more xs i = rw add-one (total_suc xs i)
+total_more xs i =
+    ⊎_elim (λ (h : i < length xs). sum_by_more (λ n. n) xs i 0 h)
+    (λ (h : length xs ≤ i).
+    let all = ap total (take_all i xs h ∙ sym (take_all (i + 1) xs (omega arith))) in
+    let past = get_or_past xs i 0 h in
+    omega arith)
+    (cases_lt i (length xs))
 
 -- fewer months have no more days
 pub total_mono : (xs : List ℕ) (i k : ℕ) → total (take i xs) ≤ total (take (i + k) xs)
 total_mono xs i zero = let e : i + 0 ≡ i = omega arith in rw e (omega arith)
 total_mono xs i (suc k) =
-    let e : i + suc k ≡ suc (i + k) = omega arith in
+    let e : i + suc k ≡ i + k + 1 = omega arith in
     let h = total_mono xs i k in
-    let t = total_suc xs (i + k) in
+    let t = total_more xs (i + k) in
     rw e (omega arith)
 
 -- the month at place p, by the days before it and before the next
@@ -73,6 +74,7 @@ falls_once xs n p d q e f g =
 pub falls_somewhere : (xs : List ℕ) (n : ℕ) → n < total xs → (p : ℕ) × (d : ℕ) × Falls xs n p d
 falls_somewhere [] n h = absurd (not-suc-le-zero h)
 falls_somewhere (x ∷ xs) n h =
+    let first = sum_by-cons (λ n. n) x xs in
     ⊎_elim
     (λ (l : n < x).
     (1, n + 1, record { has = record { place_from = omega arith; place_to = omega arith; day_from = omega arith; day_to = omega arith }; after = omega arith }))
@@ -82,7 +84,8 @@ falls_somewhere (x ∷ xs) n h =
     let pf = has.place_from in
     let pt = has.place_to in
     let e : f.0 + 1 - 1 ≡ suc (f.0 - 1) = omega arith in
-    let after = f.2.after in (
+    let after = f.2.after in
+    let further = sum_by-cons (λ n. n) x (take (f.0 - 1) xs) in (
       f.0 + 1,
       f.1,
       record {

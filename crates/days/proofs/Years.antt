@@ -8,13 +8,7 @@ use Rattle.days.specs.Months.{total, Has, Falls, Counted}
 use Rattle.days.specs.Gregorian.{new_year, month_lengths, real, day_number, day_of_date, InYear, DateOf}
 use Rattle.days.proofs.Totals.{falls_within, falls_once}
 
--- an answer is none or not
-pub none_some : {A : Type 0} (x : A) → None ≡ Some x → ⊥
-none_some x e = grind arith
-
-pub some_same : {A : Type 0} (x y : A) → Some x ≡ Some y → x ≡ y
-some_same x y e = cc
-
+-- an answer that is never some is none
 none_unless : {A : Type 0} (o : Option A) → ((x : A) → o ≡ Some x → ⊥) → None ≡ o
 none_unless (Some x) h = absurd (h x refl)
 none_unless None h = refl
@@ -93,7 +87,8 @@ dated y m d n e =
     (λ (t : real y m d ≡ true).
     let h = real_true y m d t in
     let yf = h.year_from in
-    let i = some_same _ _ (sym (cond-true (real y m d) (Some (day_number y m d)) None t) ∙ e) in
+    let s = sym (cond-true (real y m d) (Some (day_number y m d)) None t) ∙ e in
+    let i : day_number y m d ≡ n = cc in
     let f : Falls (month_lengths y) (n - new_year y) m d = record { has = h.has; after = omega arith } in
     let w = falls_within (month_lengths y) (n - new_year y) m d f in
     let x = next_year y yf in
@@ -102,7 +97,7 @@ dated y m d n e =
       falls = f;
     })
     (λ (t : real y m d ≡ false).
-    absurd (none_some n (sym (cond-false (real y m d) (Some (day_number y m d)) None t) ∙ e)))
+    let s = sym (cond-false (real y m d) (Some (day_number y m d)) None t) ∙ e in cc)
     (cases_Bool (real y m d))
 
 -- and a day of a year has a date
@@ -127,7 +122,7 @@ dated_once n y m d z p e f g =
 pub date_of_some : (n y m d : ℕ) → Dated n y m d → DateOf n (Some (y, m, d))
 date_of_some n y m d h = record {
   right = λ z p e s.
-      let t = some_same _ _ s in
+      let t : ◌≡◌ {A = ℕ × ℕ × ℕ} (y, m, d) (z, p, e) = cc in
       subst (λ (t : ℕ × ℕ × ℕ). day_of_date t.0 t.1 t.2 ≡ Some n) t (date y m d n h);
   only = λ z p e s.
       let once = dated_once n y m d z p e h (dated z p e n s) in
@@ -139,14 +134,14 @@ date_of_some n y m d h = record {
 
 pub date_of_none : (n : ℕ) → ((y : ℕ) → InYear n y → ⊥) → DateOf n None
 date_of_none n h = record {
-  right = λ y m d s. absurd (none_some _ s);
+  right = λ y m d s. cc;
   only = λ y m d s. absurd (h y (dated y m d n s).year);
 }
 
 -- a date that the year lacks has no day
 pub no_day : (lengths : List ℕ) (y m d : ℕ) → lengths ≡ month_lengths y → Counted lengths m d None → None ≡ day_of_date y m d
 no_day lengths y m d e c =
-    none_unless _ (λ n s. none_some _ (c.only (n - new_year y) (simp e (dated y m d n s).falls)))
+    none_unless _ (λ n s. let t = c.only (n - new_year y) (simp e (dated y m d n s).falls) in cc)
 
 -- no month has more than 31 days
 months_most : (y : ℕ) → AllByRecursion (λ n. n ≤ 31) (month_lengths y)

@@ -2,3 +2,4 @@ pub mod Numbers
 pub mod Months
 pub mod Gregorian
 pub mod Digits
+pub mod Faults

@@ -1,11 +1,10 @@
 -- The months of a year by their lengths, and on which day of which month the year is after some whole days.
 -- Places count from 1.
-use Rattle.std.specs.Prelude.{◌≡◌, ℕ, ◌+◌, ◌-◌, ◌≤◌, List, [], ◌∷◌, length, take, Some, None, Option, slice_index}
+use Rattle.std.specs.Prelude.{◌≡◌, ℕ, ◌+◌, ◌-◌, ◌≤◌, List, length, take, sum, Some, None, Option, slice_index}
 
 -- the days of all months together
 abbrev pub total : List ℕ → ℕ
-total [] = 0
-total (x ∷ xs) = x + total xs
+total lengths = sum lengths
 
 -- the days before the month at place p
 abbrev pub before : List ℕ → ℕ → ℕ

@@ -46,14 +46,14 @@ pub fn read_date(bytes: &[u8]) -> Result<u32, DateFault>
     day_of_date(year, month, day).ok_or(DateFault::NoSuchDay)
 }
 
-// The last digit of a number, as a byte.
+// The last digit of a number, as a byte. It fits: a `try_from` would need an answer for a case that cannot be.
 fn last_digit(n: u32) -> u8
     ensures { result ≡ last_digit n }
 {
     b'0' + (n % 10) as u8
 }
 
-// The eight digits of a date.
+// The eight digits of a date, in place: text that is formatted would want memory.
 fn date_text(year: u32, month: u32, day: u32) -> [u8; 8]
     ensures { result ≡ date_text year month day }
 {

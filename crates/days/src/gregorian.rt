@@ -4,7 +4,9 @@ ghost use Rattle.days.specs.Gregorian.{leap_year, month_lengths, new_year, day_o
 
 use crate::months::{days_past, place_after};
 
-// The last day of year 9999.
+const LAST_YEAR: u32 = 9999;
+
+// The last day of that year.
 const LAST_DAY: u32 = 3_652_059;
 
 // Whether a year has a 29 February.
@@ -22,7 +24,7 @@ pub fn month_lengths(year: u32) -> [u8; 12]
     [31, february, 31, 30, 31, 30, 31, 31, 30, 31, 30, 31]
 }
 
-// The day on which a year begins.
+// The day on which a year begins. The bound stands here, since each calendar counts other years: a type would be no plainer.
 pub fn new_year(year: u32) -> u32
     requires { (1 ≤ year) × (year ≤ 10000) }
     ensures { result ≡ new_year year }
@@ -35,7 +37,7 @@ pub fn new_year(year: u32) -> u32
 pub fn day_of_date(year: u32, month: u8, day: u8) -> Option<u32>
     ensures { result ≡ day_of_date year month day }
 {
-    if year < 1 || year > 9999 {
+    if !(1..=LAST_YEAR).contains(&year) {
         return None;
     }
     let past = days_past(&month_lengths(year), month, day)?;
@@ -59,7 +61,7 @@ fn year_of(day: u32) -> u32
 pub fn date_of_day(day: u32) -> Option<(u32, u8, u8)>
     ensures { DateOf day result }
 {
-    if day < 1 || day > LAST_DAY {
+    if !(1..=LAST_DAY).contains(&day) {
         return None;
     }
     let year = year_of(day);

@@ -7,7 +7,11 @@ ghost use Rattle.days.specs.Numbers.{in_range};
 pub mod digits;
 pub mod gregorian;
 pub mod months;
+mod printing;
+mod range_day;
 pub mod weekday;
+
+pub use range_day::RangeDay;
 
 // The range: the days that events may use, 1900-01-01 to 2199-12-31.
 pub const RANGE_FIRST: u32 = 693_596;
@@ -23,5 +27,5 @@ pub const SPAN_LAST: u32 = 804_000;
 pub fn in_range(day: u32) -> bool
     ensures { result ≡ in_range day }
 {
-    RANGE_FIRST <= day && day <= RANGE_LAST
+    (RANGE_FIRST..=RANGE_LAST).contains(&day)
 }

@@ -4,17 +4,17 @@ ghost use Rattle.days.specs.Numbers.{remainder, letters};
 
 #[derive(Clone, Copy, Debug, PartialEq, Eq)]
 pub enum Weekday {
-    Sunday,
-    Monday,
-    Tuesday,
-    Wednesday,
-    Thursday,
-    Friday,
-    Saturday,
+    Sunday = 0,
+    Monday = 1,
+    Tuesday = 2,
+    Wednesday = 3,
+    Thursday = 4,
+    Friday = 5,
+    Saturday = 6,
 }
 
 impl Weekday {
-    // The weekday of a day.
+    // The weekday of a day. A number has no cast to an enum, so a match gives the way back from `number`.
     pub fn of(day: u32) -> Weekday
         ensures { remainder result ≡ day % 7 }
     {
@@ -33,15 +33,7 @@ impl Weekday {
     pub fn number(self) -> u32
         ensures { result ≡ remainder self }
     {
-        match self {
-            Weekday::Sunday => 0,
-            Weekday::Monday => 1,
-            Weekday::Tuesday => 2,
-            Weekday::Wednesday => 3,
-            Weekday::Thursday => 4,
-            Weekday::Friday => 5,
-            Weekday::Saturday => 6,
-        }
+        self as u32
     }
 
     // The two letters that stand for it in files.

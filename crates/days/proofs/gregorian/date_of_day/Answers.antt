@@ -2,9 +2,10 @@ use Rattle.std.proofs.Common.{sym, arith}
 use Rattle.days.proofs.Years.{year_bounds, date_of_none, date_of_some}
 use Rattle.days.proofs.gregorian.date_of_day.Goals as goal
 
-pub returns-then-day-lt1 : goal.returns-then-day-lt1
-returns-then-day-lt1 c =
-    date_of_none _ (λ y h. let b = year_bounds _ y h in omega (arith, c.then-day-lt1.either))
+pub returns-then-not-contains : goal.returns-then-not-contains
+returns-then-not-contains c =
+    let outside = c.if-not-contains.ensures.value in
+    date_of_none _ (λ y h. let b = year_bounds _ y h in grind (arith, outside))
 
 pub returns : goal.returns
 returns c =
