@@ -1,12 +1,17 @@
 -- In a lawful year each code stands at one place only.
-use Rattle.std.proofs.Common.{◌≡◌, ℕ, zero, suc, ◌+◌, ◌-◌, ◌<◌, ◌≤◌, true, false, List, [], ◌∷◌, length, get_or, sym, ap, ◌∙◌, ⊎_elim, le_of_suc-le-suc, not-suc-le-zero, arith, length-take}
-use Rattle.std.proofs.lemmas.Bool.{cond-true, cond-false, cases_Bool, cases_order}
+use Rattle.std.proofs.Common.{◌≡◌, ℕ, zero, suc, ◌+◌, ◌-◌, ◌<◌, ◌≤◌, true, false, eqb, ltb, List, [], ◌∷◌, length, get_or, position, Some, None, refl, sym, ap, ◌∙◌, ⊎_elim, le_of_suc-le-suc, not-suc-le-zero, arith, length-take, length-take-le}
+use Rattle.std.proofs.Math.Bool.{beq}
+use Rattle.std.proofs.lemmas.Bool.{cond-true, cond-false, cases_Bool, cases_lt, cases_order, eqb-true, eq-eqb, lt-ltb, and_parts, and_from}
 use Rattle.std.proofs.lemmas.List.{get_or-take}
+use Rattle.std.proofs.lemmas.List.Quantifiers.{position-Some}
+use Rattle.std.proofs.lemmas.List.Sums.{fails_before_first}
+use Rattle.std.specs.List.{position_or_len}
+use Rattle.std.specs.Cmp.{booleans_Decides}
 use Rattle.calendar.specs.declared.sheet.MonthCode.{MonthCode}
 use Rattle.calendar.specs.declared.sheet.Sheet.{Sheet}
 use Rattle.calendar.specs.Sheets.{Almanac, Answered, codes_of, code_at, no_code}
 use Rattle.calendar.specs.Laws.{Lawful, plain_numbers, counted}
-use Rattle.calendar.specs.Dates.{BearsCode}
+use Rattle.calendar.specs.Dates.{is_same, BearsCode, CodeFound}
 
 -- a month of the year bears the code that stands at its place
 pub code_here : (s : Sheet) (p : ℕ) → 1 ≤ p → p ≤ s.months → code_at s p ≡ get_or s.codes (p - 1) no_code
@@ -20,12 +25,59 @@ code_after s i h = let e : i + 1 - 1 ≡ i = omega arith in code_here s (i + 1) 
 pub same_code : (c d : MonthCode) → c.number ≡ d.number → c.leap ≡ d.leap → c ≡ d
 same_code c d e f = let k : ◌≡◌ {A = MonthCode} record { number = c.number; leap = c.leap } record { number = d.number; leap = d.leap } = cc in k
 
+-- codes that are the same by the test are the same, and those that are not differ
+alike : (c d : MonthCode) → is_same c d ≡ true → c ≡ d
+alike c d e =
+    let p = and_parts (eqb c.number d.number) (beq c.leap d.leap) e in
+    same_code c d (eqb-true c.number d.number p.0) ((booleans_Decides c.leap d.leap).0 p.1)
+
+self_alike : (c : MonthCode) → is_same c c ≡ true
+self_alike c = and_from (eqb c.number c.number) (beq c.leap c.leap) (eq-eqb c.number c.number refl) ((booleans_Decides c.leap c.leap).1 refl)
+
+-- a year of at most thirteen months has as many codes
+pub all_codes : (s : Sheet) → length s.codes ≡ 13 → s.months ≤ 13 → length (codes_of s) ≡ s.months
+all_codes s full most = length-take-le s.months s.codes (omega arith)
+
+-- the first month that bears a code, by how many stand before it
+module _ (s : Sheet) (c : MonthCode) (full : length s.codes ≡ 13) (most : s.months ≤ 13) where
+  -- a month that bears the code passes the test
+  passes : (q : ℕ) → BearsCode s c q → (get_or (codes_of s) (q - 1) no_code ≡ c) × (is_same (get_or (codes_of s) (q - 1) no_code) c ≡ true)
+  passes q b = (b.same, rw b.same (self_alike c))
+
+  pub found : (i : ℕ) → position (λ d. is_same d c) (codes_of s) ≡ Some i → CodeFound s c (Some (i + 1))
+  found i e =
+      let p = position-Some (λ d. is_same d c) (codes_of s) i no_code e in
+      let k : i + 1 - 1 ≡ i = omega arith in
+      let n = all_codes s full most in
+      let within = p.0 in (
+        record { from = omega arith; to = omega arith; same = rw k (alike _ _ p.1) },
+        λ q less b.
+            let f = b.from in
+            let no = p.2 (q - 1) (omega arith) in
+            let yes = (passes q b).1 in
+            cc,
+      )
+
+  pub not_found : position (λ d. is_same d c) (codes_of s) ≡ None → CodeFound s c None
+  not_found e q b =
+      let t = position_or_len (λ d. is_same d c) (codes_of s) in
+      ⊎_elim
+      (λ (h : t < length (codes_of s)). let o = cond-true (ltb t (length (codes_of s))) (Some t) None (lt-ltb t (length (codes_of s)) h) in cc)
+      (λ (h : length (codes_of s) ≤ t).
+      let f = b.from in
+      let g = b.to in
+      let n = all_codes s full most in
+      let no = fails_before_first (λ d. is_same d c) (codes_of s) (q - 1) no_code (omega arith) in
+      let yes = (passes q b).1 in
+      cc)
+      (cases_lt t (length (codes_of s)))
+
 -- the first of a list of plain numbers that counts on from k
 module _ (c : MonthCode) (cs : List MonthCode) (k : ℕ) (plain : c.leap ≡ false) where
   counts_first : (n : ℕ) → plain_numbers (c ∷ cs) ≡ counted k n → (m : ℕ) × (c.number ≡ k) × (plain_numbers cs ≡ counted (suc k) m)
   counts_first zero e =
       let f : c.number ∷ plain_numbers cs ≡ [] = sym (cond-false c.leap (plain_numbers cs) (c.number ∷ plain_numbers cs) plain) ∙ e in
-      absurd (let z : ◌≡◌ {A = ℕ} 0 1 = cc in let w : ⊥ = omega arith in w)
+      cc
   counts_first (suc m) e =
       let f : c.number ∷ plain_numbers cs ≡ k ∷ counted (suc k) m = sym (cond-false c.leap (plain_numbers cs) (c.number ∷ plain_numbers cs) plain) ∙ e in
       (m, cc, cc)

@@ -36,7 +36,7 @@ module _ (a : Almanac) (n : ℕ) where
   pub dated_none : ((z p d : ℕ) → Stands a n z p d → ⊥) → Dated a n None
   dated_none none =
       record {
-        stands = λ y p d e. let z : ◌≡◌ {A = ℕ} 0 1 = cc in absurd (let w : ⊥ = omega arith in w);
+        stands = λ y p d e. cc;
         only = λ y p d s. absurd (none y p d s);
       }
 

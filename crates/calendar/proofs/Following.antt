@@ -83,6 +83,5 @@ shut_out =
       no_date = λ a l n c d.
           let o = a_date a l n c in
           let e = d.only o.year o.place o.day o.stands in
-          let z : ◌≡◌ {A = ℕ} 0 1 = cc in
-          omega arith;
+          cc;
     }

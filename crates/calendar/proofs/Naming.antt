@@ -1,8 +1,9 @@
 -- Dates by the codes of their months, in any calendar of a lawful shelf.
-use Rattle.std.proofs.Common.{◌≡◌, ℕ, ◌+◌, ◌-◌, ◌≤◌, eqb, List, [], ◌∷◌, Some, None, refl, ap, subst, arith, length-take}
+use Rattle.std.proofs.Common.{◌≡◌, ℕ, ◌+◌, ◌-◌, ◌≤◌, eqb, List, [], ◌∷◌, Some, None, Option, refl, ap, subst, arith, length-take}
 use Rattle.std.proofs.lemmas.Bool.{cond_both}
 use Rattle.days.specs.Months.{Falls, Counted}
 use Rattle.calendar.specs.declared.sheet.MonthCode.{MonthCode}
+use Rattle.calendar.specs.declared.sheet.Sheet.{Sheet}
 use Rattle.calendar.specs.declared.dates.NamedDate.{NamedDate}
 use Rattle.calendar.specs.Sheets.{Almanac, Stands, Dated, lengths_of, code_at}
 use Rattle.calendar.specs.Laws.{Lawful}
@@ -38,9 +39,6 @@ sound [] all i = sound_nothing
 sound (a ∷ more) all i =
     cond_both (eqb i 0) a (almanac_at more (i - 1)) Sound (λ _. sound_lawful a all.0) (λ _. sound more all.1 (i - 1))
 
-none_some : {A : Type 0} {x : A} → None ≡ Some x → ⊥
-none_some e = let z : ◌≡◌ {A = ℕ} 0 1 = cc in omega arith
-
 -- a month with days is one of the year's
 pub month_of : (a : Almanac) (n y p d : ℕ) → Stands a n y p d → (1 ≤ p) × (p ≤ (a.sheet y).months)
 month_of a n y p d s =
@@ -70,7 +68,11 @@ module _ (a : Almanac) where
 
   pub date_named_none : (n : ℕ) → Dated a n None → DateNamed a n None
   date_named_none n q =
-      record { right = λ t e. absurd (none_some e); only = λ t m. absurd (none_some (q.only t.year m.place t.day m.stands)) }
+      record { right = λ t e. cc; only = λ t m. let o = q.only t.year m.place t.day m.stands in cc }
+
+  -- where a code stands on the sheet of the date's year
+  pub on_sheet : Sound a → (t : NamedDate) (s : Sheet) (o : Option ℕ) → s ≡ a.sheet t.year → (s.months ≤ 13 → CodeFound s t.code o) → CodeFound (a.sheet t.year) t.code o
+  on_sheet known t s o e f = subst (λ (x : Sheet). CodeFound x t.code o) e (f (let m = known.months t.year in rw e m))
 
   -- all days of one date are as many days into the year
   into_year : Sound a → (t : NamedDate) (n p : ℕ) → CodeFound (a.sheet t.year) t.code (Some p) → Named a n t → Falls (lengths_of (a.sheet t.year)) (n - (a.sheet t.year).first) p t.day
@@ -95,8 +97,8 @@ module _ (a : Almanac) where
       }
 
   pub day_named_no_code : (t : NamedDate) → CodeFound (a.sheet t.year) t.code None → DayNamed a t None
-  day_named_no_code t f = record { right = λ n e. absurd (none_some e); only = λ n m. absurd (f m.place m.bears) }
+  day_named_no_code t f = record { right = λ n e. cc; only = λ n m. absurd (f m.place m.bears) }
 
   pub day_named_no_day : Sound a → (t : NamedDate) (p : ℕ) → CodeFound (a.sheet t.year) t.code (Some p) → Counted (lengths_of (a.sheet t.year)) p t.day None → DayNamed a t None
   day_named_no_day s t p f c =
-      record { right = λ n e. absurd (none_some e); only = λ n m. absurd (none_some (c.only (n - (a.sheet t.year).first) (into_year s t n p f m))) }
+      record { right = λ n e. cc; only = λ n m. let o = c.only (n - (a.sheet t.year).first) (into_year s t n p f m) in cc }

@@ -1,9 +1,14 @@
 -- Dates as people write them: a year, the code of a month and a day. And where a code stands in a year.
-use Rattle.std.specs.Prelude.{◌≡◌, ℕ, ◌<◌, ◌≤◌, Some, None, Option}
+use Rattle.std.specs.Prelude.{◌≡◌, ℕ, ◌<◌, ◌≤◌, Bool, ◌&&◌, ◌==◌, Some, None, Option}
+use Rattle.std.proofs.Math.Bool.{beq}
 use Rattle.calendar.specs.declared.sheet.MonthCode.{MonthCode}
 use Rattle.calendar.specs.declared.sheet.Sheet.{Sheet}
 use Rattle.calendar.specs.declared.dates.NamedDate.{NamedDate}
 use Rattle.calendar.specs.Sheets.{Almanac, Stands, code_at}
+
+-- whether two codes are the same
+abbrev pub is_same : MonthCode → MonthCode → Bool
+is_same c d = c.number == d.number && beq c.leap d.leap
 
 -- the month at place p of the year bears the code c
 pub record BearsCode (s : Sheet) (c : MonthCode) (p : ℕ) : Type 0 where

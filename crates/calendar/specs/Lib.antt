@@ -1,7 +1,9 @@
 pub mod Sheets
 pub mod Laws
+pub mod Codes
 pub mod Shelves
 pub mod Search
 pub mod Dates
 pub mod Consequences
 pub mod Places
+pub mod Printing

@@ -1,12 +1,19 @@
 -- Year sheets, and the almanac that a calendar means: what it says of every year. Month places count from 1.
-use Rattle.std.specs.Prelude.{◌≡◌, ℕ, ◌+◌, ◌-◌, ◌<◌, ◌≤◌, Bool, false, List, take, replicate, Some, Option, slice_index_or}
+use Rattle.std.specs.Prelude.{◌≡◌, ℕ, ◌+◌, ◌-◌, ◌<◌, ◌≤◌, Bool, true, false, List, take, replicate, Some, Option, slice_index_or}
 use Rattle.days.specs.Months.{total, before, Has}
 use Rattle.calendar.specs.declared.sheet.MonthCode.{MonthCode}
 use Rattle.calendar.specs.declared.sheet.Sheet.{Sheet}
 
+-- the code n and the code nL
+abbrev pub plain_code : ℕ → MonthCode
+plain_code n = record { number = n; leap = false }
+
+abbrev pub leap_code : ℕ → MonthCode
+leap_code n = record { number = n; leap = true }
+
 -- what stands in a place of a sheet that no month uses
 abbrev pub no_code : MonthCode
-no_code = record { number = 0; leap = false }
+no_code = plain_code 0
 
 -- the sheet of a year that a calendar does not answer
 abbrev pub empty_sheet : Sheet

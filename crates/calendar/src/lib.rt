@@ -7,15 +7,18 @@ ghost use Rattle.calendar.specs.Laws.{Lawful};
 
 mod consequences;
 mod dates;
+mod month_codes;
+mod printing;
 mod search;
 mod sheet;
 mod shelf;
 
 pub use consequences::{laws_give, laws_shut_out};
-pub use dates::{NamedDate, date_named, day_named, place_of};
+pub use dates::{NamedDate, date_named, day_named};
+pub use month_codes::year_codes;
 pub use search::date_from;
 pub use sheet::{MonthCode, Sheet};
-pub use shelf::{Empty, On, Shelf};
+pub use shelf::{Empty, On, PLACES, Shelf};
 
 // What a calendar states, and the sheet question. Its meaning is an almanac that obeys the laws.
 pub trait Sheets {

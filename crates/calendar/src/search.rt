@@ -21,15 +21,14 @@ enum Sight {
 
 // Where `day` lies, as seen from the sheet.
 fn look(sheet: &Sheet, day: u32) -> Sight
-    requires { sheet.now.months ≤ 13 }
     ensures { Seen sheet.now day result }
 {
     if day < sheet.first {
         return Sight::Earlier((sheet.first - day - 1) / LONGEST_YEAR + 1);
     }
     let past = day - sheet.first;
-    let months = sheet.months as usize;
-    match place_after(&sheet.lengths[0..months], past) {
+    // Two cases with names of their own, of which `map_or` would put the rarer one first.
+    match place_after(sheet.month_lengths(), past) {
         Some((place, date)) => Sight::Here(place, date),
         None => Sight::Later((past / LONGEST_YEAR).max(1)),
     }
@@ -47,14 +46,10 @@ pub fn date_from<C: Sheets>(calendar: &C, answered: u32, day: u32) -> Option<(u3
         if sheet.months == 0 {
             return None;
         }
-        let next = match look(&sheet, day) {
+        year = match look(&sheet, day) {
             Sight::Here(place, date) => return Some((year, place, date)),
-            Sight::Earlier(years) => year.checked_sub(years),
-            Sight::Later(years) => year.checked_add(years),
+            Sight::Earlier(years) => year.checked_sub(years)?,
+            Sight::Later(years) => year.checked_add(years)?,
         };
-        let Some(guess) = next else {
-            return None;
-        };
-        year = guess;
     }
 }

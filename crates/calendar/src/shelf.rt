@@ -8,10 +8,11 @@ ghost use Rattle.calendar.specs.Places.{lawful_take};
 use crate::{Calendar, Sheet};
 
 // A shelf has at most so many calendars; those below are out of reach.
-const PLACES: usize = 8;
+pub const PLACES: usize = 8;
 
 // Calendars side by side. Its meaning is the list of their meanings, and it answers for the calendar at a place, which
-// counts from 0. A place past the last has no name and answers no year.
+// counts from 0. A place past the last has no name and answers no year. The calendars differ in type, so that a place
+// stays a number beside its shelf.
 pub trait Shelf {
     ghost held: { Self → List Almanac };
 
@@ -37,12 +38,7 @@ pub trait Shelf {
     fn find(&self, name: &[u8]) -> Option<usize>
         ensures { Found (held self.now) name.now result }
     {
-        for place in 0..self.count() {
-            if self.name(place).as_bytes().eq_ignore_ascii_case(name) {
-                return Some(place);
-            }
-        }
-        None
+        (0..self.count()).find(|&place| self.name(place).as_bytes().eq_ignore_ascii_case(name))
     }
 
     ghost lawful: { (s : Self) → AllLawful (held s) };
@@ -93,6 +89,8 @@ impl Shelf for Empty {
     }
 }
 
+// The five questions below are alike, yet each asks the first calendar or the rest itself: the calendars of a shelf differ
+// in type, so that none can be handed out by its place, and a trait of visitors would be no plainer.
 impl<C: Calendar, R: Shelf> Shelf for On<C, R> {
     ghost held = { λ s. C.Sheets.meaning s.calendar ∷ take 7 (R.Shelf.held s.rest) };
 

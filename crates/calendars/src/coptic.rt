@@ -3,8 +3,7 @@ ghost use Rattle.std.specs.Prelude.{◌≡◌, ◌≤◌};
 ghost use Rattle.calendars.specs.Coptic.{coptic, coptic_year};
 ghost use Rattle.calendars.specs.Laws.{coptic_laws};
 
-use super::codes::thirteen;
-use calendar::{Calendar, Sheet, Sheets, date_from};
+use calendar::{Calendar, Sheet, Sheets, date_from, year_codes};
 
 // The years that lie wholly in the span.
 const LOWEST: u32 = 1615;
@@ -25,7 +24,7 @@ fn year_sheet(year: u32) -> Sheet
     Sheet {
         first: 103_605 + 365 * (year - 1) + year / 4,
         months: 13,
-        codes: thirteen(),
+        codes: year_codes(13, None),
         lengths: [30, 30, 30, 30, 30, 30, 30, 30, 30, 30, 30, 30, thirteenth],
     }
 }

@@ -3,8 +3,7 @@ ghost use Rattle.std.specs.Prelude.{◌≡◌, ◌≤◌};
 ghost use Rattle.calendars.specs.Gregorian.{gregorian, gregorian_year};
 ghost use Rattle.calendars.specs.Laws.{gregorian_laws};
 
-use super::codes::twelve;
-use calendar::{Calendar, Sheet, Sheets, date_from};
+use calendar::{Calendar, Sheet, Sheets, date_from, year_codes};
 use days::gregorian::{month_lengths, new_year};
 
 // The years that lie wholly in the span.
@@ -26,7 +25,7 @@ fn year_sheet(year: u32) -> Sheet
     Sheet {
         first: new_year(year),
         months: 12,
-        codes: twelve(),
+        codes: year_codes(12, None),
         lengths: [
             jan, feb, mar, apr, may, jun, jul, aug, sep, oct, nov, dec, 0,
         ],

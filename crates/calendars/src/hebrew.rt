@@ -3,8 +3,7 @@ ghost use Rattle.std.specs.Prelude.{◌≡◌, ◌≤◌};
 ghost use Rattle.calendars.specs.Hebrew.{hebrew, hebrew_year, new_year, leap_year, elapsed, correction, second, third, laid_out};
 ghost use Rattle.calendars.specs.Laws.{hebrew_laws};
 
-use super::codes::{twelve, with_5l};
-use calendar::{Calendar, Sheet, Sheets, date_from};
+use calendar::{Calendar, Sheet, Sheets, date_from, year_codes};
 
 // The years that lie wholly in the span.
 const LOWEST: u32 = 5659;
@@ -17,6 +16,7 @@ const MIDDLE: u32 = 5810;
 #[derive(Clone, Copy)]
 pub struct Hebrew;
 
+// A rule of its own, which the Islamic one is like in shape only.
 fn is_leap(year: u32) -> bool
     requires { year ≤ 10000 }
     ensures { result ≡ leap_year year }
@@ -60,6 +60,7 @@ fn first_day(year: u32) -> u32
     days + year_correction(days_before(year - 1), days, days_before(year + 1)) - 1_373_427
 }
 
+// The two months below differ in length each in years of its own: one function for both would be no plainer.
 fn second_month(days: u32) -> u8
     ensures { result ≡ second days }
 {
@@ -81,14 +82,14 @@ fn lay_out(leap: bool, first: u32, days: u32) -> Sheet
         Sheet {
             first,
             months: 13,
-            codes: with_5l(),
+            codes: year_codes(12, Some(5)),
             lengths: [30, second, third, 29, 30, 30, 29, 30, 29, 30, 29, 30, 29],
         }
     } else {
         Sheet {
             first,
             months: 12,
-            codes: twelve(),
+            codes: year_codes(12, None),
             lengths: [30, second, third, 29, 30, 29, 30, 29, 30, 29, 30, 29, 0],
         }
     }

@@ -3,8 +3,7 @@ ghost use Rattle.std.specs.Prelude.{◌≡◌, ◌≤◌};
 ghost use Rattle.calendars.specs.Islamic.{islamic_civil, islamic_year, leap_year};
 ghost use Rattle.calendars.specs.Laws.{islamic_laws};
 
-use super::codes::twelve;
-use calendar::{Calendar, Sheet, Sheets, date_from};
+use calendar::{Calendar, Sheet, Sheets, date_from, year_codes};
 
 // The years that lie wholly in the span.
 const LOWEST: u32 = 1316;
@@ -32,7 +31,7 @@ fn year_sheet(year: u32) -> Sheet
     Sheet {
         first: 227_015 + 354 * (year - 1) + (3 + 11 * year) / 30,
         months: 12,
-        codes: twelve(),
+        codes: year_codes(12, None),
         lengths: [30, 29, 30, 29, 30, 29, 30, 29, 30, 29, 30, twelfth, 0],
     }
 }

@@ -1,18 +1,14 @@
 -- A calendar of our own, unlike the others: months of 31 and 28 days in turn, and every third year a leap month of 30
 -- days, in turn after the third and after the ninth month.
-use Rattle.std.specs.Prelude.{ℕ, ◌+◌, ◌-◌, ◌*◌, ◌/◌, ◌%◌, true, cond, ◌||◌, [], ◌∷◌, ◌++◌, codes, ◌==◌}
-use Rattle.calendar.specs.declared.sheet.MonthCode.{MonthCode}
+use Rattle.std.specs.Prelude.{ℕ, ◌+◌, ◌-◌, ◌*◌, ◌/◌, ◌%◌, cond, ◌||◌, [], ◌∷◌, ◌++◌, codes, ◌==◌}
 use Rattle.calendar.specs.declared.sheet.Sheet.{Sheet}
-use Rattle.calendar.specs.Sheets.{Almanac, no_code}
-use Rattle.calendars.specs.Codes.{plain_codes}
+use Rattle.calendar.specs.Sheets.{Almanac, leap_code, no_code}
+use Rattle.calendar.specs.Codes.{plain_codes}
 use Rattle.calendars.specs.Span.{in_span}
 
 -- the day on which the year y begins
 abbrev pub new_year : ℕ → ℕ
 new_year y = 692746 + 354 * y + 30 * ((y - 1) / 3)
-
-abbrev pub leap_code : ℕ → MonthCode
-leap_code n = record { number = n; leap = true }
 
 -- the sheet of a year that begins on the day first
 abbrev pub common_year : ℕ → Sheet

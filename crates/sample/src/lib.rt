@@ -2,11 +2,10 @@
 #![tactic(auto)]
 
 ghost use Rattle.std.specs.Prelude.{◌≡◌, ◌≤◌};
-ghost use Rattle.calendars.specs.Codes.{plain_code};
-ghost use Rattle.sample.specs.Wandering.{wandering, wandering_year, leap_code, common_year, year_with_3L, year_with_9L};
+ghost use Rattle.sample.specs.Wandering.{wandering, wandering_year, common_year, year_with_3L, year_with_9L};
 ghost use Rattle.sample.specs.Laws.{laws};
 
-use calendar::{Calendar, MonthCode, Sheet, Sheets, date_from};
+use calendar::{Calendar, Sheet, Sheets, date_from, year_codes};
 
 const LOWEST: u32 = 1;
 
@@ -15,42 +14,13 @@ const HIGHEST: u32 = 304;
 #[derive(Clone, Copy)]
 pub struct Wandering;
 
-fn plain(number: u8) -> MonthCode
-    ensures { result ≡ plain_code number }
-{
-    MonthCode {
-        number,
-        leap: false,
-    }
-}
-
-fn leap(number: u8) -> MonthCode
-    ensures { result ≡ leap_code number }
-{
-    MonthCode { number, leap: true }
-}
-
 fn common_year(first: u32) -> Sheet
     ensures { result ≡ common_year first }
 {
     Sheet {
         first,
         months: 12,
-        codes: [
-            plain(1),
-            plain(2),
-            plain(3),
-            plain(4),
-            plain(5),
-            plain(6),
-            plain(7),
-            plain(8),
-            plain(9),
-            plain(10),
-            plain(11),
-            plain(12),
-            plain(0),
-        ],
+        codes: year_codes(12, None),
         lengths: [31, 28, 31, 28, 31, 28, 31, 28, 31, 28, 31, 28, 0],
     }
 }
@@ -61,21 +31,7 @@ fn year_with_3l(first: u32) -> Sheet
     Sheet {
         first,
         months: 13,
-        codes: [
-            plain(1),
-            plain(2),
-            plain(3),
-            leap(3),
-            plain(4),
-            plain(5),
-            plain(6),
-            plain(7),
-            plain(8),
-            plain(9),
-            plain(10),
-            plain(11),
-            plain(12),
-        ],
+        codes: year_codes(12, Some(3)),
         lengths: [31, 28, 31, 30, 28, 31, 28, 31, 28, 31, 28, 31, 28],
     }
 }
@@ -86,21 +42,7 @@ fn year_with_9l(first: u32) -> Sheet
     Sheet {
         first,
         months: 13,
-        codes: [
-            plain(1),
-            plain(2),
-            plain(3),
-            plain(4),
-            plain(5),
-            plain(6),
-            plain(7),
-            plain(8),
-            plain(9),
-            leap(9),
-            plain(10),
-            plain(11),
-            plain(12),
-        ],
+        codes: year_codes(12, Some(9)),
         lengths: [31, 28, 31, 28, 31, 28, 31, 28, 31, 30, 28, 31, 28],
     }
 }
@@ -136,6 +78,7 @@ impl Sheets for Wandering {
         number == 3 || number == 9
     }
 
+    // One test of its own range, as in the four: a function for all of them would be no plainer.
     fn sheet(&self, year: u32) -> Sheet {
         if (LOWEST..=HIGHEST).contains(&year) {
             year_sheet(year)
@@ -176,6 +119,7 @@ mod tests {
     #[test]
     fn days_and_dates_agree(rt: HostRuntime) -> Result<(), Fail> {
         for day in 693_384..803_617 {
+            // The test ends with words of its own where a day has no date.
             match date_named(&SHELF, 1, day) {
                 Some(date) => assert_eq!(rt; day_named(&SHELF, 1, date), Some(day)),
                 None => return Err(Fail::new("a covered day without a date")),
