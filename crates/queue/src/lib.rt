@@ -11,8 +11,11 @@ ghost use Rattle.queue.specs.Heap.{Heaped, Popped, FirstFrom};
 ghost use Rattle.queue.specs.Steps.{HeapedBut, Leads};
 ghost use Rattle.std.proofs.Common.{rules};
 
+mod lent;
 #[cfg(test)]
 mod tests;
+
+pub use lent::Queue;
 
 // What a queue can hold: values of a total order. `before` is the test of that order, and their `Ord` says the same.
 pub trait Entry: Ord + Copy {
@@ -35,10 +38,10 @@ impl Entry for u32 {
 fn earlier<T: Entry>(a: T, b: T) -> bool
     ensures { result ≡ T.Entry.before a b }
 {
-    a.cmp(&b).is_lt()
+    a < b
 }
 
-// Moves the last entry up past the later ones above it.
+// Moves the last entry up past the later ones above it. A walk from child to parent, which no iterator makes.
 fn rise<T: Entry>(front: &mut [T])
     requires some { 0 < length front.old }
     requires heaped { Heaped T.Entry.before front.old (length front.old - 1) }
@@ -74,7 +77,7 @@ fn earlier_child<T: Entry>(front: &[T], j: usize) -> usize
     }
 }
 
-// Moves the first entry down past the earlier ones below it.
+// Moves the first entry down past the earlier ones below it. A walk from parent to child, which no iterator makes.
 fn sink<T: Entry>(front: &mut [T])
     requires { HeapedBut T.Entry.before front.old 0 (length front.old) }
     ensures entries { IsPermutation front.old front.new }
@@ -91,7 +94,8 @@ fn sink<T: Entry>(front: &mut [T])
     }
 }
 
-// Adds an entry to those of the first `used` places, which then take up one place more.
+// Adds an entry to those of the first `used` places, which then take up one place more. For an owner who lends the places
+// anew at each call and keeps the number; `Queue` is for one loan.
 pub fn push<T: Entry>(slots: &mut [T], used: usize, entry: T)
     requires room { used < length slots.old }
     requires heaped { Heaped T.Entry.before slots.old used }

@@ -39,13 +39,14 @@ impl Entry for Call {
 #[test]
 fn series_of_one_day_come_by_number(rt: HostRuntime) {
     let mut slots = [Due { day: 0, series: 0 }; 3];
-    push(&mut slots, 0, Due { day: 5, series: 9 });
-    push(&mut slots, 1, Due { day: 5, series: 2 });
-    push(&mut slots, 2, Due { day: 4, series: 7 });
-    assert_eq!(rt; pop(&mut slots, 3), Some(Due { day: 4, series: 7 }));
-    assert_eq!(rt; pop(&mut slots, 2), Some(Due { day: 5, series: 2 }));
-    assert_eq!(rt; pop(&mut slots, 1), Some(Due { day: 5, series: 9 }));
-    assert!(rt; pop(&mut slots, 0).is_none());
+    let mut queue = Queue::new(&mut slots);
+    queue.push(Due { day: 5, series: 9 });
+    queue.push(Due { day: 5, series: 2 });
+    queue.push(Due { day: 4, series: 7 });
+    assert_eq!(rt; queue.pop(), Some(Due { day: 4, series: 7 }));
+    assert_eq!(rt; queue.pop(), Some(Due { day: 5, series: 2 }));
+    assert_eq!(rt; queue.pop(), Some(Due { day: 5, series: 9 }));
+    assert!(rt; queue.pop().is_none());
 }
 
 #[test]
