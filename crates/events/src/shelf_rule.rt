@@ -1,23 +1,25 @@
 // Rules over the calendar at a place of a shelf.
-ghost use Rattle.std.specs.Prelude.{◌≡◌, Bool, true, ℕ};
-ghost use Rattle.days.specs.Numbers.{in_range};
+ghost use Rattle.std.specs.Prelude.{◌≡◌, Bool, ℕ};
 ghost use Rattle.calendar.specs.Shelves.{almanac_at};
 ghost use Rattle.sources.specs.Sets.{Found};
 ghost use Rattle.rules.specs.Meaning.{gives};
 
-use calendar::{Calendar, Empty, On, Shelf};
+use calendar::{Calendar, Empty, On, PLACES, Shelf};
+use days::RangeDay;
 use rules::{Rule, RuleDays};
 use sources::Source;
-
-// A shelf has at most so many calendars; those below are out of reach.
-const PLACES: usize = 8;
 
 // A shelf that answers for a rule over the calendar at a place. The calendars of a shelf differ in type, so none can be
 // handed out, and the shelf itself answers. A place past the last gives no day.
 pub trait RuleShelf: Shelf {
     // The least day at or after `from` that the rule gives. One lifetime, since `RuleDays` has one for both references.
-    fn next_given<'r>(&'r self, place: usize, rule: &'r Rule, start: u32, from: u32) -> Option<u32>
-        requires { in_range start ≡ true }
+    fn next_given<'r>(
+        &'r self,
+        place: usize,
+        rule: &'r Rule,
+        start: RangeDay,
+        from: u32,
+    ) -> Option<u32>
         ensures { Found (gives (almanac_at (Self.Shelf.held self.now) place) rule.now start) from result };
 }
 
@@ -26,7 +28,7 @@ impl RuleShelf for Empty {
         &'r self,
         _place: usize,
         _rule: &'r Rule,
-        _start: u32,
+        _start: RangeDay,
         _from: u32,
     ) -> Option<u32> {
         None
@@ -38,14 +40,15 @@ impl<C: Calendar, R: RuleShelf> RuleShelf for On<C, R> {
         &'r self,
         place: usize,
         rule: &'r Rule,
-        start: u32,
+        start: RangeDay,
         from: u32,
     ) -> Option<u32> {
+        // As the questions of `On` do, which a visitor of calendars would make no plainer.
         if place == 0 {
             RuleDays {
                 calendar: &self.calendar,
                 rule,
-                start,
+                start: start.day(),
             }
             .next(from)
         } else if place < PLACES {
@@ -62,13 +65,13 @@ pub struct ShelfRule<'a, S> {
     pub shelf: &'a S,
     pub place: usize,
     pub rule: &'a Rule,
-    pub start: u32,
+    pub start: RangeDay,
 }
 
 impl<'a, S: RuleShelf> Source for ShelfRule<'a, S> {
     ghost days = { λ s. gives (almanac_at (S.Shelf.held s.shelf.now) s.place) s.rule.now s.start };
 
-    ghost ready = { λ s. in_range s.start ≡ true };
+    ghost ready = { λ _. Unit {0} };
 
     fn next(&self, from: u32) -> Option<u32> {
         self.shelf

@@ -1,6 +1,7 @@
 -- Sets of days: the least day of a set at or after a day, how sets are made from lists and from other sets, and the first n
 -- days of a set. A set is a Boolean test on day numbers, of which only those in the range are days of the set.
-use Rattle.std.specs.Prelude.{◌≡◌, ℕ, zero, suc, ◌+◌, ◌<◌, ◌≤◌, Bool, true, false, cond, not, ◌&&◌, ◌||◌, List, [], ◌∷◌, Some, None, Option, ◌==◌, nat_le, nat_lt}
+use Rattle.std.specs.Prelude.{◌≡◌, ℕ, zero, suc, ◌+◌, ◌<◌, ◌≤◌, Bool, true, cond, not, ◌&&◌, ◌||◌, List, Some, None, Option, ◌==◌, nat_le, nat_lt}
+use Rattle.std.specs.List.{list_any}
 use Rattle.days.specs.Numbers.{in_range}
 
 -- d is a day of the set
@@ -25,8 +26,7 @@ single day d = day == d
 
 -- the days of a list, in any order; a day may stand in it twice
 abbrev pub listed : List ℕ → ℕ → Bool
-listed [] d = false
-listed (day ∷ more) d = single day d || listed more d
+listed days d = list_any (λ day. single day d) days
 
 -- the days of a set up to a last one, which is included
 abbrev pub until : (ℕ → Bool) → ℕ → ℕ → Bool

@@ -1,6 +1,5 @@
 // Sources that stand on no other: one day, and listed days.
-ghost use Rattle.std.specs.Prelude.{◌≡◌, ℕ, Bool};
-ghost use Rattle.sources.specs.Sets.{Found, single, listed, union};
+ghost use Rattle.sources.specs.Sets.{single, listed};
 
 use crate::Source;
 use days::in_range;
@@ -17,11 +16,7 @@ impl Source for Single {
     ghost ready = { λ _. Unit {0} };
 
     fn next(&self, from: u32) -> Option<u32> {
-        if from <= self.day && in_range(self.day) {
-            Some(self.day)
-        } else {
-            None
-        }
+        (from <= self.day && in_range(self.day)).then_some(self.day)
     }
 }
 
@@ -37,29 +32,10 @@ impl<'a> Source for Listed<'a> {
     ghost ready = { λ _. Unit {0} };
 
     fn next(&self, from: u32) -> Option<u32> {
-        let mut least = None;
-        for day in self.days {
-            let late = Single { day: *day }.next(from);
-            least = earlier(least, late);
-        }
-        least
+        self.days
+            .iter()
+            .copied()
+            .filter(|&day| from <= day && in_range(day))
+            .min()
     }
-}
-
-// The earlier of two sets' answers, which is the answer of their union.
-pub(crate) fn earlier(one: Option<u32>, other: Option<u32>) -> Option<u32>
-    ensures { (s t : ℕ → Bool) (from : ℕ) → Found s from one → Found t from other → Found (union s t) from result }
-{
-    match (one, other) {
-        (Some(a), Some(b)) => Some(a.min(b)),
-        (Some(a), None) => Some(a),
-        (None, b) => b,
-    }
-}
-
-// Whether a day is listed.
-pub(crate) fn lists(days: &[u32], day: u32) -> bool
-    ensures { result ≡ listed days.now day }
-{
-    days.contains(&day)
 }

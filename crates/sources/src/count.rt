@@ -10,16 +10,15 @@ pub fn last_day<S: Source>(source: &S, n: u16) -> Option<u32>
     requires { S.Source.ready source.now }
     ensures { LastOf (S.Source.days source.now) n result }
 {
+    // Each question depends on the answer before, and a source is no iterator.
     let mut last = None;
     let mut at = 0;
     for _i in 0..n {
-        match source.next(at) {
-            Some(day) => {
-                last = Some(day);
-                at = day + 1;
-            }
-            None => break,
-        }
+        let Some(day) = source.next(at) else {
+            break;
+        };
+        last = Some(day);
+        at = day + 1;
     }
     last
 }

@@ -1,13 +1,13 @@
 // The days of an event: a rule's days within a limit and added days, without excluded days.
-ghost use Rattle.sources.specs.Sets.{Found, listed, except, union};
-ghost use Rattle.sources.specs.Events.{event_days, Kept};
+ghost use Rattle.std.specs.Prelude.{◌≡◌};
+ghost use Rattle.sources.specs.Events.{limited, event_days, limit_in, Kept};
 
 use crate::Source;
 use crate::bottom::Listed;
 use crate::count::{Count, last_day};
 use crate::layers::{Except, Union, Until};
 
-// Where a rule ends.
+// Where a rule ends, as a file says it.
 #[derive(Clone, Copy)]
 pub enum Limit {
     Endless,
@@ -17,56 +17,99 @@ pub enum Limit {
     Count(u16),
 }
 
-// The day to keep beside a limit: for a count, the last of the counted days.
-pub fn kept_day<R: Source>(rule: &R, limit: Limit) -> Option<u32>
-    requires { R.Source.ready rule.now }
-    ensures { Kept (R.Source.days rule.now) limit result }
-{
-    match limit {
-        Limit::Count(n) => last_day(rule, n),
-        Limit::Endless | Limit::Until(_) => None,
-    }
+// Where a rule ends, with what is kept of it: for a count, the last of the counted days, so that no question walks to it
+// again.
+#[derive(Clone, Copy)]
+pub enum Ending {
+    Endless,
+    Until(u32),
+    Count { n: u16, last: Option<u32> },
 }
 
-// The least day of an event at or after `from`, where `last` is the day kept beside the limit.
-pub fn next_of_event<R: Source>(
-    rule: &R,
-    limit: Limit,
-    last: Option<u32>,
-    rdates: &[u32],
-    exdates: &[u32],
-    from: u32,
-) -> Option<u32>
-    requires { (R.Source.ready rule.now) × (Kept (R.Source.days rule.now) limit last) }
-    ensures { Found (event_days (R.Source.days rule.now) limit rdates.now exdates.now) from result }
-{
-    match limit {
-        Limit::Endless => next_amended(rule, rdates, exdates, from),
-        Limit::Until(day) => next_amended(
-            &Until {
-                inner: rule,
-                last: day,
+impl Ending {
+    // Walks over the days of a count once, to the last of them.
+    pub fn of<R: Source>(rule: &R, limit: Limit) -> Ending
+        requires { R.Source.ready rule.now }
+        ensures limit { limit_in result ≡ limit }
+        ensures kept { Kept (R.Source.days rule.now) result }
+    {
+        match limit {
+            Limit::Endless => Ending::Endless,
+            Limit::Until(day) => Ending::Until(day),
+            Limit::Count(n) => Ending::Count {
+                n,
+                last: last_day(rule, n),
             },
-            rdates,
-            exdates,
-            from,
-        ),
-        Limit::Count(n) => next_amended(&Count::with_last(rule, n, last), rdates, exdates, from),
+        }
+    }
+
+    pub fn limit(self) -> Limit
+        ensures { result ≡ limit_in self }
+    {
+        match self {
+            Ending::Endless => Limit::Endless,
+            Ending::Until(day) => Limit::Until(day),
+            Ending::Count { n, .. } => Limit::Count(n),
+        }
     }
 }
 
-// The least day at or after `from` of a source's days and the added ones, without the excluded ones.
-fn next_amended<S: Source>(source: &S, rdates: &[u32], exdates: &[u32], from: u32) -> Option<u32>
-    requires { S.Source.ready source.now }
-    ensures { Found (except (union (S.Source.days source.now) (listed rdates.now)) (listed exdates.now)) from result }
-{
-    let added = Union {
-        one: source,
-        other: Listed { days: rdates },
-    };
-    Except {
-        inner: added,
-        days: exdates,
+// The days of a rule within its limit.
+#[derive(Clone, Copy)]
+struct Ended<'a, R> {
+    rule: &'a R,
+    ending: Ending,
+}
+
+impl<'a, R: Source> Source for Ended<'a, R> {
+    ghost days = { λ s. limited (R.Source.days s.rule.now) (limit_in s.ending) };
+
+    ghost ready = { λ s. R.Source.ready s.rule.now × Kept (R.Source.days s.rule.now) s.ending };
+
+    fn next(&self, from: u32) -> Option<u32> {
+        let inner = self.rule;
+        match self.ending {
+            Ending::Endless => inner.next(from),
+            Ending::Until(last) => Until { inner, last }.next(from),
+            Ending::Count { n, last } => Count::with_last(inner, n, last).next(from),
+        }
     }
-    .next(from)
+}
+
+// The days that an event adds to those of its rule, and those that it excludes.
+#[derive(Clone, Copy)]
+pub struct Amendments<'a> {
+    pub added: &'a [u32],
+    pub excluded: &'a [u32],
+}
+
+// An event: its rule, where the rule ends, and its amendments.
+#[derive(Clone, Copy)]
+pub struct Event<'a, R> {
+    pub rule: R,
+    pub ending: Ending,
+    pub amendments: Amendments<'a>,
+}
+
+impl<'a, R: Source> Source for Event<'a, R> {
+    ghost days = { λ e. event_days (R.Source.days e.rule) (limit_in e.ending) e.amendments.added.now e.amendments.excluded.now };
+
+    ghost ready = { λ e. R.Source.ready e.rule × Kept (R.Source.days e.rule) e.ending };
+
+    fn next(&self, from: u32) -> Option<u32> {
+        let Amendments { added, excluded } = self.amendments;
+        let ended = Ended {
+            rule: &self.rule,
+            ending: self.ending,
+        };
+        let added = Union {
+            one: ended,
+            other: Listed { days: added },
+        };
+        Except {
+            inner: added,
+            days: excluded,
+        }
+        .next(from)
+    }
 }

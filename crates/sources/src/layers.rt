@@ -2,7 +2,6 @@
 ghost use Rattle.sources.specs.Sets.{listed, until, except, union};
 
 use crate::Source;
-use crate::bottom::{earlier, lists};
 
 // The days up to a last one, which is included.
 #[derive(Clone, Copy)]
@@ -17,10 +16,7 @@ impl<S: Source> Source for Until<S> {
     ghost ready = { λ s. S.Source.ready s.inner };
 
     fn next(&self, from: u32) -> Option<u32> {
-        match self.inner.next(from) {
-            Some(day) if day <= self.last => Some(day),
-            _ => None,
-        }
+        self.inner.next(from).filter(|&day| day <= self.last)
     }
 }
 
@@ -37,9 +33,10 @@ impl<'a, S: Source> Source for Except<'a, S> {
     ghost ready = { λ s. S.Source.ready s.inner };
 
     fn next(&self, from: u32) -> Option<u32> {
+        // Each question depends on the answer before, and a source is no iterator.
         let mut at = from;
         while let Some(day) = self.inner.next(at) {
-            if !lists(self.days, day) {
+            if !self.days.contains(&day) {
                 return Some(day);
             }
             at = day + 1;
@@ -61,7 +58,9 @@ impl<A: Source, B: Source> Source for Union<A, B> {
     ghost ready = { λ s. A.Source.ready s.one × B.Source.ready s.other };
 
     fn next(&self, from: u32) -> Option<u32> {
-        earlier(self.one.next(from), self.other.next(from))
+        let one = self.one.next(from);
+        let other = self.other.next(from);
+        one.into_iter().chain(other).min()
     }
 }
 

@@ -11,11 +11,11 @@ mod layers;
 
 pub use bottom::{Listed, Single};
 pub use count::{Count, count_is_until, last_day};
-pub use events::{Limit, kept_day, next_of_event};
+pub use events::{Amendments, Ending, Event, Limit};
 pub use layers::{Except, Union, Until};
 
 // A set of days in the range that answers which of them comes next. What a value keeps worked out has to be right, which
-// `ready` says, before it is asked.
+// `ready` says, before it is asked. It is no invariant, since what is kept may come from outside, untested.
 pub trait Source {
     ghost days: { Self → ℕ → Bool };
 

@@ -14,5 +14,5 @@ returns-after-loop-i g c =
     walked_last set c.loop-i.last c.loop-i.invariant (omega arith)
     (λ e o h. omega (arith, below_mono set c.loop-i.at e h, c.loop-i.invariant.counted))
 
-pub returns-in-None : goal.returns-in-None
-returns-in-None g c = walked_last _ c.loop-i.last c.loop-i.invariant (omega arith) (λ e o h. absurd (c.in-None.ensures e o h))
+pub returns-in_default : goal.returns-in_default
+returns-in_default g c = walked_last _ c.loop-i.last c.loop-i.invariant (omega arith) (λ e o h. absurd (c.in_default.ensures e o h))

@@ -1,17 +1,16 @@
-use Rattle.std.proofs.Common.{ℕ, List, subst}
-use Rattle.std.proofs.lemmas.List.{take_all}
+use Rattle.std.proofs.Common.{◌≡◌, rules, tests, min, sym, ◌∙◌, subst}
+use Rattle.std.specs.List.{reduce, filter}
+use Rattle.std.proofs.lemmas.Iterator.{YieldsList-from_slice}
+use Rattle.std.proofs.lemmas.Iterator.Adapters.{option_map_id}
+use Rattle.std.proofs.lemmas.Iterator.Consumers.{YieldsList-from_copied, YieldsList-from_filter, YieldsList-at, min_from_yields_List}
 use Rattle.sources.specs.Sets.{Found, listed}
-use Rattle.sources.proofs.Lists.{listed_more}
-use Rattle.sources.proofs.Sames.{found_same}
+use Rattle.sources.proofs.Lists.{late, found_least}
 use Rattle.sources.proofs.bottom.ListedSource.next.Goals as goal
-
-pub loop-day-preserved : goal.loop-day-preserved
-loop-day-preserved c =
-    let more = listed_more c.args.self.now.days.now c.loop-day.day-index c.loop-day-test.true in
-    found_same _ _ more c.args.from c.earlier-least.result
-    (c.earlier-least.ensures _ _ c.args.from c.loop-day.invariant c.next-late.ensures)
 
 pub returns : goal.returns
 returns c =
-    let all = take_all c.loop-day.day-index c.args.self.now.days.now c.loop-day-test.false in
-    subst (λ (xs : List ℕ). Found (listed xs) c.args.from c.loop-day.least) all c.loop-day.invariant
+    let least : c.min.result ≡ reduce min (filter (late c.args.from) c.args.self.now.days.now) =
+    sym (option_map_id _)
+    ∙ min_from_yields_List _ _ c.min.ensures.ran
+    (YieldsList-from_filter _ (late c.args.from) (YieldsList-at c.filter.ensures.source (YieldsList-from_copied (YieldsList-from_slice c.args.self.now.days.now cc))) c.filter.ensures.closure (λ x r q k. search (rules, tests))) in
+    subst (Found (listed c.args.self.now.days.now) c.args.from) (sym least) (found_least c.args.from c.args.self.now.days.now)
