@@ -1,5 +1,5 @@
 -- How many events lines hold, line by line; there are no more of them than lines.
-use Rattle.std.proofs.Common.{◌≡◌, ℕ, ◌+◌, ◌-◌, ◌≤◌, true, false, cond, List, [], ◌∷◌, length, codes, Option, sym, ap, ◌∙◌, arith}
+use Rattle.std.proofs.Common.{◌≡◌, ℕ, ◌+◌, ◌-◌, ◌^◌, ◌≤◌, true, false, cond, List, [], ◌∷◌, length, codes, Option, sym, ap, ◌∙◌, arith}
 use Rattle.std.proofs.lemmas.Bool.{cond_both}
 use Rattle.lines.specs.declared.cursor.Cursor.{Cursor}
 use Rattle.lines.specs.Lines.{Line}
@@ -47,7 +47,7 @@ few_events d (l ∷ ls) =
       | Other ↦ omega (arith, few_events d ls)
     ]
 
-pub few : (d : ℕ) (c : Cursor) → length (events d (view c)) ≤ 60000
+pub few : (d : ℕ) (c : Cursor) → length (events d (view c)) ≤ 2 ^ 63 + 1
 few d c = omega (arith, few_events d (view c), few_view c)
 
 -- a line that is a BEGIN, before the lines of what it begins

@@ -3,8 +3,7 @@ use Rattle.std.proofs.Common.{◌≡◌, ℕ, zero, suc, ◌+◌, ◌-◌, ◌<�
 use Rattle.std.proofs.lemmas.Bool.{cond-true, cond-false}
 use Rattle.lines.specs.Property.{is_named, value}
 use Rattle.text.specs.Letters.{same}
-use Rattle.components.specs.Nest.{Kind, Begin, End, Other, kind, kinds, walk, opened, calendar, one_calendar}
-use Rattle.lines.specs.Lines.{Line}
+use Rattle.components.specs.Nest.{Kind, Begin, End, Other, kind, walk, opened}
 
 -- go on with what is left, if nothing was refused
 abbrev pub after : Option (List Kind) → (List Kind → Option (List Kind)) → Option (List Kind)
@@ -45,12 +44,3 @@ on_begin k ks n x y m e o = ap (λ j. walk n x [] (j ∷ ks)) e ∙ inner n x y 
 
 pub opens : (d : ℕ) (x : List ℕ) (ks : List Kind) → d < 8 → opened (8 - d) x ks ≡ walk (8 - (d + 1)) x [] ks
 opens d x ks h = let e : 8 - d ≡ suc (8 - (d + 1)) = omega arith in ap (λ n. opened n x ks) e
-
-not_begun : (t : List ℕ) (ks : List Kind) → false ≡ is_named (codes "BEGIN") t → calendar (kind t ∷ ks) ≡ false
-not_begun t ks g =
-    ap (λ k. calendar (k ∷ ks)) (cond-false (is_named (codes "BEGIN") t) _ _ (sym g))
-    ∙ elim (is_named (codes "END") t) as (λ b. calendar (cond b (End (value t)) Other ∷ ks) ≡ false) [ true ↦ refl | false ↦ refl ]
-
-pub kind_not_begin : {ls vs ws : List Line} {l : Line} (n : ℕ) → vs ≡ ls → vs ≡ l ∷ ws → false ≡ is_named (codes "BEGIN") l.text → None ≡ cond (one_calendar ls) (Some n) None
-kind_not_begin {ls} {vs} {ws} {l} n e f g =
-    sym (ap (λ us. cond (one_calendar us) (Some n) None) (sym e ∙ f) ∙ ap (λ b. cond b (Some n) None) (not_begun l.text (kinds ws) g))

@@ -1,50 +1,56 @@
 // The events of a file, one after another, and the lines of an event that have a name.
-ghost use Rattle.std.specs.Prelude.{◌≡◌, ◌≤◌, [], ◌∷◌, length, if◌then◌else◌};
+ghost use Rattle.std.specs.Prelude.{◌≡◌, ◌<◌, ◌≤◌, [], ◌∷◌, length, MatchOption, IfSome};
 ghost use Rattle.lines.specs.View.{view, rest, line_of};
 ghost use Rattle.components.specs.Events.{own, events, event_at, picked};
 
 use lines::{Cursor, named, value_of};
 use text::reads;
 
-// Goes on, from inside `inside` components, to the next event, and stands at its BEGIN.
-pub fn to_event(lines: &mut Cursor, inside: usize) -> bool
+// The BEGIN of the next event, from inside `inside` components; goes on to the line after it.
+pub fn next_event<'a>(lines: &mut Cursor<'a>, inside: usize) -> Option<Cursor<'a>>
     requires { inside ≤ 2 }
-    ensures found { events inside (view lines.old) ≡ (if result then event_at lines.new ∷ events 2 (rest lines.new).later else []) }
-    ensures on { length (view lines.new) ≤ length (view lines.old) }
-    ensures begins { view lines.new ≡ (if result then line_of lines.new ∷ (rest lines.new).later else []) }
+    ensures found { MatchOption result (events inside (view lines.old) ≡ []) (λ event. events inside (view lines.old) ≡ event_at event ∷ events 2 (view lines.new)) }
+    ensures later { MatchOption result (view lines.new ≡ []) (λ event. view lines.new ≡ (rest event).later) }
+    ensures on { IfSome result (λ _. length (view lines.new) < length (view lines.old)) }
+    ensures begins { IfSome result (λ event. view event ≡ line_of event ∷ (rest event).later) }
 {
     let mut depth = inside;
-    while lines.more() {
-        if named(*lines, b"BEGIN") {
-            if depth == 1 && reads(value_of(*lines), b"VEVENT") {
-                return true;
+    while let Some(line) = lines.next_line() {
+        if named(line, b"BEGIN") {
+            if depth == 1 && reads(value_of(line), b"VEVENT") {
+                return Some(line);
             }
             depth += 1;
-        } else if named(*lines, b"END") && depth > 0 {
-            depth -= 1;
+        } else if named(line, b"END") {
+            depth = depth.saturating_sub(1);
         }
-        lines.skip_line();
     }
-    false
+    None
 }
 
-// Goes on to the component's next own line named `name`, and stands there.
-pub fn find(lines: &mut Cursor, name: &[u8]) -> bool
-    ensures { picked name.now (own 0 (view lines.old)) ≡ (if result then line_of lines.new ∷ picked name.now (own 0 (rest lines.new).later) else []) }
+// The component's first own line named `name`, from the line where the cursor stands on.
+pub fn first_named<'a>(lines: Cursor<'a>, name: &[u8]) -> Option<Cursor<'a>>
+    ensures { MatchOption result (picked name.now (own 0 (view lines.entry)) ≡ []) (λ line. picked name.now (own 0 (view lines.entry)) ≡ line_of line ∷ picked name.now (own 0 (rest line).later)) }
 {
+    let mut lines = lines;
     let mut depth: usize = 0;
-    while lines.more() {
-        if named(*lines, b"BEGIN") {
+    while let Some(line) = lines.next_line() {
+        if named(line, b"BEGIN") {
             depth += 1;
-        } else if named(*lines, b"END") {
-            if depth == 0 {
-                return false;
-            }
-            depth -= 1;
-        } else if depth == 0 && named(*lines, name) {
-            return true;
+        } else if named(line, b"END") {
+            depth = depth.checked_sub(1)?;
+        } else if depth == 0 && named(line, name) {
+            return Some(line);
         }
-        lines.skip_line();
     }
-    false
+    None
+}
+
+// The component's next own line named `name` after the line `after`, which is its BEGIN or an own line.
+pub fn next_named<'a>(after: Cursor<'a>, name: &[u8]) -> Option<Cursor<'a>>
+    ensures { MatchOption result (picked name.now (own 0 (rest after.entry).later) ≡ []) (λ line. picked name.now (own 0 (rest after.entry).later) ≡ line_of line ∷ picked name.now (own 0 (rest line).later)) }
+{
+    let mut lines = after;
+    lines.skip_line();
+    first_named(lines, name)
 }

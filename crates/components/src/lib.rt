@@ -4,5 +4,5 @@
 mod events;
 mod tree;
 
-pub use events::{find, to_event};
+pub use events::{first_named, next_event, next_named};
 pub use tree::count_events;

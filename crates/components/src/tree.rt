@@ -13,11 +13,7 @@ fn events_begun(depth: u8, name: Cursor) -> usize
     ensures value { result ≡ (if is_event depth (text name.entry) then 1 else 0) }
     ensures few { result ≤ 1 }
 {
-    if depth == 1 && reads(name, b"VEVENT") {
-        1
-    } else {
-        0
-    }
+    usize::from(depth == 1 && reads(name, b"VEVENT"))
 }
 
 // Reads the component `name` inside `depth` others, from after its BEGIN to past its END: how many events it and what it holds are.
@@ -30,10 +26,8 @@ fn component(lines: &mut Cursor, depth: u8, name: Cursor) -> Option<usize>
     if depth >= 8 {
         return None;
     }
-    match body(lines, depth + 1, name) {
-        Some(inside) => Some(inside + events_begun(depth, name)),
-        None => None,
-    }
+    let inside = body(lines, depth + 1, name)?;
+    Some(inside + events_begun(depth, name))
 }
 
 // Reads what the component `name` holds, to past its END: how many events that is.
@@ -45,20 +39,11 @@ fn body(lines: &mut Cursor, depth: u8, name: Cursor) -> Option<usize>
     ensures counted { IfSome result (λ n. n + length (events (depth - 1) (view lines.new)) ≡ length (events depth (view lines.old))) }
 {
     let mut count = 0;
-    while lines.more() {
-        let line = *lines;
-        lines.skip_line();
+    while let Some(line) = lines.next_line() {
         if named(line, b"BEGIN") {
-            match component(lines, depth, value_of(line)) {
-                Some(n) => count += n,
-                None => return None,
-            }
+            count += component(lines, depth, value_of(line))?;
         } else if named(line, b"END") {
-            return if same_text(value_of(line), name) {
-                Some(count)
-            } else {
-                None
-            };
+            return same_text(value_of(line), name).then_some(count);
         }
     }
     None
@@ -66,15 +51,10 @@ fn body(lines: &mut Cursor, depth: u8, name: Cursor) -> Option<usize>
 
 // How many events the file has, if one VCALENDAR stands around all its lines.
 pub fn count_events(file: &[u8]) -> Option<usize>
-    requires { length file.now ≤ 60000 }
     ensures { result ≡ (if one_calendar (logical_lines file.now) then Some (length (events_in (logical_lines file.now))) else None) }
 {
     let mut lines = Cursor::new(file);
-    if !lines.more() {
-        return None;
-    }
-    let line = lines;
-    lines.skip_line();
+    let line = lines.next_line()?;
     if !named(line, b"BEGIN") {
         return None;
     }
@@ -83,5 +63,5 @@ pub fn count_events(file: &[u8]) -> Option<usize>
         return None;
     }
     let count = component(&mut lines, 0, name)?;
-    if lines.more() { None } else { Some(count) }
+    lines.next_line().is_none().then_some(count)
 }

@@ -1,5 +1,5 @@
 -- The form of a line: the machine and the parts speak of the same line.
-use Rattle.std.proofs.Common.{◌≡◌, ℕ, true, false, cond, ◌&&◌, ◌||◌, eqb, ◌≢◌, List, [], ◌∷◌, ◌++◌, map, sym, refl, ap, ◌∙◌, append_assoc, append-nil, arith}
+use Rattle.std.proofs.Common.{◌≡◌, ℕ, true, false, cond, ◌&&◌, ◌||◌, eqb, ◌≢◌, List, [], ◌∷◌, ◌++◌, map, not, sym, refl, ap, ◌∙◌, append_assoc, append-nil, arith}
 use Rattle.std.specs.List.{AllByRecursion}
 use Rattle.std.proofs.lemmas.Bool.{cond-true, cond-false, cond_both, and_left, or_from, both_ways, false≢true, eqb-true, eqb-false, ne_eqb}
 use Rattle.lines.specs.Property.{name_byte, name, parameters, value, after, piece}
@@ -76,7 +76,7 @@ stands p h =
 -- the name
 ends_name : (n bs : List ℕ) → AllByRecursion (λ b. name_byte b ≡ true) n → name bs ≡ [] → name (n ++ bs) ≡ n
 ends_name [] bs h e = e
-ends_name (b ∷ n) bs h e = cond-true (name_byte b) _ _ h.0 ∙ ap (λ m. b ∷ m) (ends_name n bs h.1 e)
+ends_name (b ∷ n) bs h e = cond-false (not (name_byte b)) _ _ (ap not h.0) ∙ ap (λ m. b ∷ m) (ends_name n bs h.1 e)
 
 no_name : (ps : List Parameter) (v : List ℕ) → name (after_name ps v) ≡ []
 no_name [] v = refl

@@ -1,78 +1,70 @@
 -- What is left from a place on: past a fold, past a byte, and at a line's end.
-use Rattle.std.proofs.Common.{◌≡◌, ℕ, ◌+◌, ◌<◌, ◌≤◌, true, false, cond, ◌&&◌, eqb, ltb, List, [], ◌∷◌, length, get_or, drop, sym, refl, ap, ◌∙◌, ⊎_elim, add-zero, arith}
-use Rattle.std.proofs.lemmas.List.{drop-drop, drop_more, get_or-drop, get_or_past, drop_all}
-use Rattle.std.proofs.lemmas.Bool.{cond-true, cond-false, and_parts, false≢true, cases_lt, cases_Bool, lt-ltb, le-ltb}
-use Rattle.std.proofs.lemmas.Bool.Decides.{nat_tests}
-use Rattle.lines.specs.Lines.{crlf, blank, onto, ended, begun, split, lines, ends_at, fold_at}
+use Rattle.std.proofs.Common.{◌≡◌, ℕ, ◌+◌, ◌≤◌, Bool, true, false, ◌&&◌, not, ◌||◌, eqb, List, [], ◌∷◌, length, get_or, drop, sym, refl, ap, ◌∙◌, arith, length-drop}
+use Rattle.std.specs.List.{between}
+use Rattle.std.proofs.lemmas.Slice.{between_to_end}
+use Rattle.std.proofs.lemmas.Bool.{cond-true, cond-false}
+use Rattle.lines.specs.Lines.{crlf, blank, onto, ended, split, lines, folds}
+use Rattle.lines.specs.Ended.{proper, well_ended}
 
--- no line's end ends in the 0 past the end, and no fold does
-pub no_end : (a : ℕ) → crlf a 0 ≡ true → ⊥
-no_end a e = false≢true (and_parts (eqb a 13) _ e).1
+-- what is left from the k-th byte on
+abbrev tail : ℕ → List ℕ → List ℕ
+tail k xs = between k (length xs) xs
 
-no_fold : (a b : ℕ) → crlf a b && blank 0 ≡ true → ⊥
-no_fold a b e = false≢true (and_parts (crlf a b) _ e).1
+to_end : (k : ℕ) (xs : List ℕ) → tail k xs ≡ drop k xs
+to_end k xs = between_to_end xs k (length xs) (omega arith)
 
-skips : (p : ℕ) (xs : List ℕ) → fold_at xs 0 ≡ true → split p xs ≡ split (p + 1) (drop 3 xs)
-skips p [] e = absurd (no_fold 0 0 e)
-skips p (a ∷ []) e = absurd (no_fold a 0 e)
-skips p (a ∷ b ∷ []) e = absurd (no_fold a b e)
-skips p (a ∷ b ∷ c ∷ xs) e = let q = and_parts (crlf a b) (blank c) e in cond-true (crlf a b) _ _ q.0 ∙ cond-true (blank c) _ _ q.1
+pub shorter : (k : ℕ) (xs : List ℕ) → length (tail k xs) ≤ length xs
+shorter k xs = rw (to_end k xs) (simp length-drop (omega arith))
 
-plain : (p x : ℕ) (xs : List ℕ) → ends_at (x ∷ xs) 0 ≡ false → split p (x ∷ xs) ≡ onto x (split p xs)
-plain p x [] e = refl
-plain p x (b ∷ []) e = cond-false (crlf x b) _ _ e
-plain p x (b ∷ c ∷ xs) e = cond-false (crlf x b) _ _ e
+-- CR LF stands here
+pub record Ends (xs : List ℕ) : Type 0 where
+  pub room : 2 ≤ length xs
+  pub cr : get_or xs 0 0 ≡ 13
+  pub lf : get_or xs 1 0 ≡ 10
 
-stops : (p : ℕ) (xs : List ℕ) → ends_at xs 0 ≡ true → fold_at xs 0 ≡ false → split p xs ≡ ended (lines (p + 1) (drop 2 xs))
-stops p [] e f = refl
-stops p (a ∷ []) e f = absurd (no_end a e)
-stops p (a ∷ b ∷ []) e f = cond-true (crlf a b) _ _ e
-stops p (a ∷ b ∷ c ∷ xs) e f = cond-true (crlf a b) _ _ e ∙ cond-false (blank c) _ _ (let g : blank c ≡ false = grind (arith, nat_tests) in g)
+-- a byte stands here, and CR LF does not
+pub record Goes (xs : List ℕ) : Type 0 where
+  pub room : 1 ≤ length xs
+  pub not_ended : 2 ≤ length xs → crlf (get_or xs 0 0) (get_or xs 1 0) ≡ false
 
--- what stands at a place of the rest
-here : (bs : List ℕ) (i : ℕ) → fold_at (drop i bs) 0 ≡ fold_at bs i
-here bs i = rw (get_or-drop, get_or-drop, get_or-drop, add-zero)
+ends_crlf : (a b : ℕ) (xs : List ℕ) → Ends (a ∷ b ∷ xs) → crlf a b ≡ true
+ends_crlf a b xs h = ap (λ x. crlf x b) h.cr ∙ ap (crlf 13) h.lf
 
-pub here_ends : (bs : List ℕ) (i : ℕ) → ends_at (drop i bs) 0 ≡ ends_at bs i
-here_ends bs i = rw (get_or-drop, get_or-drop, add-zero)
+pub past_fold : (p : ℕ) (xs : List ℕ) → Ends xs → 3 ≤ length xs → blank (get_or xs 2 0) ≡ true → split (p + 1) (tail 3 xs) ≡ split p xs
+past_fold p [] h l e = absurd (omega arith)
+past_fold p (a ∷ []) h l e = absurd (omega arith)
+past_fold p (a ∷ b ∷ []) h l e = absurd (omega arith)
+past_fold p (a ∷ b ∷ c ∷ xs) h l e =
+    ap (split (p + 1)) (to_end 3 (a ∷ b ∷ c ∷ xs)) ∙ sym (cond-true (crlf a b) _ _ (ends_crlf a b (c ∷ xs) h) ∙ cond-true (blank c) _ _ e)
 
-pub past_fold : (p : ℕ) (bs : List ℕ) (i : ℕ) → fold_at bs i ≡ true → split p (drop i bs) ≡ split (p + 1) (drop (i + 3) bs)
-past_fold p bs i e = skips p (drop i bs) (here bs i ∙ e) ∙ ap (split (p + 1)) (drop-drop 3 i bs)
+pub past_byte : (p : ℕ) (xs : List ℕ) → Goes xs → split p xs ≡ onto (get_or xs 0 0) (split p (tail 1 xs))
+past_byte p [] h = absurd (omega (arith, h.room))
+past_byte p (a ∷ []) h = refl
+past_byte p (a ∷ b ∷ []) h = cond-false (crlf a b) _ _ (h.not_ended (omega arith)) ∙ ap (λ t. onto a (split p t)) (sym (to_end 1 (a ∷ b ∷ [])))
+past_byte p (a ∷ b ∷ c ∷ xs) h = cond-false (crlf a b) _ _ (h.not_ended (omega arith)) ∙ ap (λ t. onto a (split p t)) (sym (to_end 1 (a ∷ b ∷ c ∷ xs)))
 
-pub past_byte : (p : ℕ) (bs : List ℕ) (i : ℕ) → i < length bs → ends_at bs i ≡ false → split p (drop i bs) ≡ onto (get_or bs i 0) (split p (drop (i + 1) bs))
-past_byte p bs i h e =
-    ap (split p) (drop_more bs i 0 h) ∙ plain p (get_or bs i 0) (drop (i + 1) bs) (ap (λ xs. ends_at xs 0) (sym (drop_more bs i 0 h)) ∙ here_ends bs i ∙ e)
+pub past_end : (p : ℕ) (xs : List ℕ) → Ends xs → folds xs ≡ false → split p xs ≡ ended (lines (p + 1) (tail 2 xs))
+past_end p [] h f = absurd (omega (arith, h.room))
+past_end p (a ∷ []) h f = absurd (omega (arith, h.room))
+past_end p (a ∷ b ∷ []) h f = cond-true (crlf a b) _ _ (ends_crlf a b [] h)
+past_end p (a ∷ b ∷ c ∷ xs) h f =
+    let e = ends_crlf a b (c ∷ xs) h in
+    let g : blank c ≡ false = sym (ap (λ t. t && blank c) e) ∙ f in
+    cond-true (crlf a b) _ _ e ∙ cond-false (blank c) _ _ g ∙ ap (λ t. ended (lines (p + 1) t)) (sym (to_end 2 (a ∷ b ∷ c ∷ xs)))
 
-pub past_end : (p : ℕ) (bs : List ℕ) (i : ℕ) → ends_at bs i ≡ true → fold_at bs i ≡ false → split p (drop i bs) ≡ ended (lines (p + 1) (drop (i + 2) bs))
-past_end p bs i e f = stops p (drop i bs) (here_ends bs i ∙ e) (here bs i ∙ f) ∙ ap (λ xs. ended (lines (p + 1) xs)) (drop-drop 2 i bs)
+-- how a file's lines end, from a place on
+pub from_start : (xs : List ℕ) → proper false xs ≡ well_ended xs
+from_start [] = refl
+from_start (a ∷ []) = refl
+from_start (a ∷ b ∷ xs) = refl
 
-pub within : (bs : List ℕ) (i : ℕ) → fold_at bs i ≡ true → i + 3 ≤ length bs
-within bs i e =
-    ⊎_elim
-    (λ far. absurd (no_fold (get_or bs i 0) (get_or bs (i + 1) 0) (rw (get_or_past bs (i + 2) 0 (omega arith)) at e)))
-    (λ near. near)
-    (cases_lt (length bs) (i + 3))
+pub ended_here : (s : Bool) (xs : List ℕ) → Ends xs → proper true (tail 2 xs) ≡ proper s xs
+ended_here s [] h = absurd (omega (arith, h.room))
+ended_here s (a ∷ []) h = absurd (omega (arith, h.room))
+ended_here s (a ∷ b ∷ xs) h = ap (proper true) (to_end 2 (a ∷ b ∷ xs)) ∙ sym (cond-true (crlf a b) _ _ (ends_crlf a b xs h))
 
-pub within_end : (bs : List ℕ) (i : ℕ) → ends_at bs i ≡ true → i + 2 ≤ length bs
-within_end bs i e =
-    ⊎_elim
-    (λ far. absurd (no_end (get_or bs i 0) (rw (get_or_past bs (i + 1) 0 (omega arith)) at e)))
-    (λ near. near)
-    (cases_lt (length bs) (i + 2))
-
-pub no_room : (bs : List ℕ) (i : ℕ) → length bs < i + 3 → fold_at bs i ≡ false
-no_room bs i h = ⊎_elim (λ e. absurd (let k : i + 3 ≤ length bs = within bs i e in omega arith)) (λ e. e) (cases_Bool (fold_at bs i))
-
-pub no_end_room : (bs : List ℕ) (i : ℕ) → length bs < i + 2 → ends_at bs i ≡ false
-no_end_room bs i h = ⊎_elim (λ e. absurd (let k : i + 2 ≤ length bs = within_end bs i e in omega arith)) (λ e. e) (cases_Bool (ends_at bs i))
-
--- the lines from a place on, where the file has not ended
-pub at_start : (p : ℕ) (bs : List ℕ) (i : ℕ) → i < length bs → lines p (drop i bs) ≡ begun p (split p (drop i bs))
-at_start p bs i h = ap (lines p) (drop_more bs i 0 h) ∙ sym (ap (λ xs. begun p (split p xs)) (drop_more bs i 0 h))
-
-pub started : (p : ℕ) (bs : List ℕ) (i : ℕ) → lines p (drop i bs) ≡ cond (ltb i (length bs)) (begun p (split p (drop i bs))) []
-started p bs i =
-    ⊎_elim
-    (λ near. at_start p bs i near ∙ sym (cond-true (ltb i (length bs)) _ _ (lt-ltb i (length bs) near)))
-    (λ far. ap (lines p) (drop_all i bs far) ∙ sym (cond-false (ltb i (length bs)) _ _ (le-ltb i (length bs) far)))
-    (cases_lt i (length bs))
+pub plain_here : (s : Bool) (xs : List ℕ) → Goes xs → (eqb (get_or xs 0 0) 13 || eqb (get_or xs 0 0) 10) ≡ false → proper false (tail 1 xs) ≡ proper s xs
+plain_here s [] h f = absurd (omega (arith, h.room))
+plain_here s (a ∷ []) h f = refl
+plain_here s (a ∷ b ∷ xs) h f =
+    ap (proper false) (to_end 1 (a ∷ b ∷ xs)) ∙ sym (cond-false (crlf a b) _ _ (h.not_ended (omega arith)) ∙ ap (λ t. not t && proper false (b ∷ xs)) f)

@@ -1,4 +1,3 @@
 pub mod Folds
 pub mod Joining
-pub mod Ending
 pub mod Few

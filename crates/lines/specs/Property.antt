@@ -2,6 +2,7 @@
 use Rattle.std.specs.Prelude.{ℕ, Bool, false, cond, not, ◌&&◌, ◌||◌, List, [], ◌∷◌, codes, ◌==◌}
 use Rattle.std.specs.Int.{is_in_range}
 use Rattle.text.specs.Letters.{same}
+use Rattle.text.specs.Pieces.{until}
 
 -- letters, digits and hyphens
 abbrev pub name_byte : ℕ → Bool
@@ -9,8 +10,7 @@ name_byte b = is_in_range 65 90 b || (is_in_range 97 122 b || (is_in_range 48 57
 
 -- the name that the bytes begin with
 abbrev pub name : List ℕ → List ℕ
-name [] = []
-name (b ∷ bs) = cond (name_byte b) (b ∷ name bs) []
+name bs = until (λ b. not (name_byte b)) bs
 
 -- what stands after the first `mark` outside quotes; with q, from inside quotes
 abbrev pub after : Bool → ℕ → List ℕ → List ℕ

@@ -1,17 +1,13 @@
 // Places in a file.
-ghost use Rattle.std.specs.Prelude.{◌+◌, ◌≤◌, length};
+ghost use Rattle.std.specs.Prelude.{◌+◌, ◌*◌, ◌^◌, ◌≤◌, length};
 
 mod reads;
 
-pub(crate) use reads::ends_at;
-
-// A place in a file's bytes, in the physical line `place`, read without folds.
+// A place in a file, in the physical line `place`, read without folds: the bytes that are left from it on.
 #[derive(Clone, Copy)]
 pub struct Cursor<'a> {
-    bytes: &'a [u8],
-    at: usize,
+    rest: &'a [u8],
     place: usize,
-    ghost within: { at ≤ length bytes.now },
-    ghost small: { length bytes.now ≤ 60000 },
-    ghost placed: { place ≤ at + 1 },
+    // a line's end or a fold takes two bytes or more, so there is a number for each line to come
+    ghost numbered: { 2 * place + length rest.now ≤ 2 ^ 64 + 1 },
 }

@@ -1,5 +1,5 @@
 // The form of a line: a name, parameters and a colon outside quotes.
-ghost use Rattle.std.specs.Prelude.{◌≡◌, ◌≤◌, length};
+ghost use Rattle.std.specs.Prelude.{◌≡◌};
 ghost use Rattle.lines.specs.Lines.{logical_lines};
 ghost use Rattle.lines.specs.View.{text};
 ghost use Rattle.lines.specs.Machine.{well_formed, all_well};
@@ -47,15 +47,13 @@ pub fn well_formed(line: Cursor) -> bool
 
 // Whether every line of the file is.
 pub fn all_well_formed(file: &[u8]) -> bool
-    requires { length file.now ≤ 60000 }
     ensures { result ≡ all_well (logical_lines file.now) }
 {
     let mut lines = Cursor::new(file);
-    while lines.more() {
-        if !well_formed(lines) {
+    while let Some(line) = lines.next_line() {
+        if !well_formed(line) {
             return false;
         }
-        lines.skip_line();
     }
     true
 }

@@ -1,10 +1,10 @@
 // The parts of a line: its name, its parameters and its value.
-ghost use Rattle.std.specs.Prelude.{◌≡◌, false, [], if◌then◌else◌};
+ghost use Rattle.std.specs.Prelude.{◌≡◌, false, not};
 ghost use Rattle.lines.specs.Property.{name_byte, is_named, value, piece, date_valued};
 ghost use Rattle.lines.specs.View.{text};
 
 use crate::cursor::Cursor;
-use text::{Bytes, reads, same_letter};
+use text::{Bytes, Stop, UpTo, reads};
 
 // Whether a byte may stand in a name: a letter, a digit or a hyphen.
 pub fn in_name(b: u8) -> bool
@@ -13,26 +13,23 @@ pub fn in_name(b: u8) -> bool
     matches!(b, b'A'..=b'Z' | b'a'..=b'z' | b'0'..=b'9' | b'-')
 }
 
+// Stops after a name, at the first byte that may not stand in one.
+#[derive(Clone, Copy)]
+struct NameEnd;
+
+impl Stop for NameEnd {
+    ghost stops = { λ _ b. not (name_byte b) };
+
+    fn stops(&self, b: u8) -> bool {
+        !in_name(b)
+    }
+}
+
 // Whether the name that begins here is `wanted`.
 pub fn named<B: Bytes>(line: B, wanted: &[u8]) -> bool
     ensures { result ≡ is_named wanted.now (B.Bytes.left line) }
 {
-    let mut line = line;
-    for w in wanted {
-        let Some(b) = line.next() else {
-            return false;
-        };
-        if !in_name(b) {
-            return false;
-        }
-        if !same_letter(*w, b) {
-            return false;
-        }
-    }
-    match line.next() {
-        Some(b) => !in_name(b),
-        None => true,
-    }
+    reads(UpTo::new(line, NameEnd), wanted)
 }
 
 // The line's value: what stands after the first colon outside quotes.
@@ -54,28 +51,23 @@ pub fn value_of(line: Cursor) -> Cursor
 // A parameter's bytes, to the semicolon or colon outside quotes that ends it.
 #[derive(Clone, Copy)]
 struct Parameter<B> {
-    inner: B,
+    rest: B,
     quoted: bool,
-    ended: bool,
 }
 
 impl<B: Bytes> Bytes for Parameter<B> {
-    ghost left = { λ s. (if s.ended then [] else piece s.quoted (B.Bytes.left s.inner)) };
+    ghost left = { λ s. piece s.quoted (B.Bytes.left s.rest) };
 
     fn next(&mut self) -> Option<u8> {
-        if self.ended {
-            return None;
-        }
-        let next = self.inner.next();
-        match (next, self.quoted) {
-            (Some(b'"'), _) => self.quoted = !self.quoted,
-            (Some(b':' | b';'), false) | (None, _) => {
-                self.ended = true;
-                return None;
-            }
+        let mut rest = self.rest;
+        let b = rest.next()?;
+        match (b, self.quoted) {
+            (b'"', _) => self.quoted = !self.quoted,
+            (b':' | b';', false) => return None,
             _ => {}
         }
-        next
+        self.rest = rest;
+        Some(b)
     }
 }
 
@@ -91,9 +83,8 @@ pub fn is_date(line: Cursor) -> bool
             (b':', false) => return false,
             (b';', false) => {
                 let parameter = Parameter {
-                    inner: line,
+                    rest: line,
                     quoted: false,
-                    ended: false,
                 };
                 if named(parameter, b"VALUE") {
                     return reads(parameter, b"VALUE=DATE");

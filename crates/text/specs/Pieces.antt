@@ -6,10 +6,14 @@ abbrev pub before : Option ℕ → List ℕ → List ℕ
 before (Some b) bs = b ∷ bs
 before None bs = []
 
+-- the bytes before the first that a test holds of
+abbrev pub until : (ℕ → Bool) → List ℕ → List ℕ
+until test [] = []
+until test (b ∷ bs) = cond (test b) [] (b ∷ until test bs)
+
 -- the bytes up to the first separator, and those past it
 abbrev pub up_to : ℕ → List ℕ → List ℕ
-up_to mark [] = []
-up_to mark (b ∷ bs) = cond (b == mark) [] (b ∷ up_to mark bs)
+up_to mark bs = until (λ b. b == mark) bs
 
 abbrev pub past : ℕ → List ℕ → List ℕ
 past mark [] = []

@@ -8,23 +8,14 @@ use crate::Bytes;
 pub fn same_letter(a: u8, b: u8) -> bool
     ensures { result ≡ alike a b }
 {
-    a.to_ascii_uppercase() == b.to_ascii_uppercase()
+    a.eq_ignore_ascii_case(&b)
 }
 
 // Whether the bytes that are left are `wanted`.
 pub fn reads<B: Bytes>(bytes: B, wanted: &[u8]) -> bool
     ensures { result ≡ same wanted.now (B.Bytes.left bytes) }
 {
-    let mut bytes = bytes;
-    for w in wanted {
-        let Some(b) = bytes.next() else {
-            return false;
-        };
-        if !same_letter(*w, b) {
-            return false;
-        }
-    }
-    bytes.next().is_none()
+    same_text(wanted, bytes)
 }
 
 // Whether the same bytes are left of two texts.
@@ -34,10 +25,7 @@ pub fn same_text<A: Bytes, B: Bytes>(one: A, other: B) -> bool
     let mut left = one;
     let mut right = other;
     while let Some(x) = left.next() {
-        let Some(y) = right.next() else {
-            return false;
-        };
-        if !same_letter(x, y) {
+        if !right.next().is_some_and(|y| same_letter(x, y)) {
             return false;
         }
     }

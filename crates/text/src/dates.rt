@@ -11,25 +11,15 @@ fn eight_bytes<B: Bytes>(text: B) -> Option<[u8; 8]>
 {
     let mut text = text;
     let mut bytes = [0; 8];
-    for i in 0..8usize {
-        let Some(b) = text.next() else {
-            return None;
-        };
-        bytes[i] = b;
+    for byte in &mut bytes {
+        *byte = text.next()?;
     }
-    match text.next() {
-        Some(_) => None,
-        None => Some(bytes),
-    }
+    text.next().is_none().then_some(bytes)
 }
 
 // The day that a text names by eight digits, or none if it names none.
 pub fn read_day<B: Bytes>(text: B) -> Option<u32>
     ensures { result ≡ day_in (B.Bytes.left text) }
 {
-    let bytes = eight_bytes(text)?;
-    match read_date(&bytes) {
-        Ok(day) => Some(day),
-        Err(_) => None,
-    }
+    read_date(&eight_bytes(text)?).ok()
 }

@@ -10,7 +10,7 @@ mod pieces;
 
 pub use compare::{reads, same_letter, same_text};
 pub use dates::read_day;
-pub use pieces::{Pieces, UpTo, skip_past};
+pub use pieces::{Pieces, Separator, Stop, UpTo, skip_past};
 
 // Bytes that are read one after another; a copy reads the same ones again.
 pub trait Bytes: Copy {
@@ -20,4 +20,14 @@ pub trait Bytes: Copy {
     fn next(&mut self) -> Option<u8>
         ensures read { left self.old ≡ before result (left self.new) }
         ensures ended { IfNone result (left self.new ≡ []) };
+}
+
+impl<'a> Bytes for &'a [u8] {
+    ghost left = { λ s. s.now };
+
+    fn next(&mut self) -> Option<u8> {
+        let (first, rest) = self.split_first()?;
+        *self = rest;
+        Some(*first)
+    }
 }

@@ -1,40 +1,54 @@
 // Pieces of a text between separators.
-ghost use Rattle.std.specs.Prelude.{◌≡◌, [], ◌∷◌, if◌then◌else◌, MatchOption};
-ghost use Rattle.text.specs.Pieces.{up_to, past, has, pieces};
+ghost use Rattle.std.specs.Prelude.{◌≡◌, ⊤, ◌==◌, ℕ, Bool, List, [], ◌∷◌, Some, None};
+ghost use Rattle.text.specs.Pieces.{until, past, has, pieces};
 
 use crate::Bytes;
+use std::alloc::AllocError;
+use std::marker::Model;
 
-// The bytes up to the first separator.
-#[derive(Clone, Copy)]
-pub struct UpTo<B> {
-    inner: B,
-    mark: u8,
-    ended: bool,
+// Which bytes end a part of a text.
+pub trait Stop: Copy {
+    ghost stops: { Self → ℕ → Bool };
+
+    fn stops(&self, b: u8) -> bool
+        ensures { result ≡ stops self.now b };
 }
 
-impl<B: Bytes> UpTo<B> {
-    pub fn new(inner: B, mark: u8) -> UpTo<B>
-        ensures { (if result.ended then [] else up_to result.mark (B.Bytes.left result.inner)) ≡ up_to mark (B.Bytes.left inner) }
-    {
-        let ended = false;
-        UpTo { inner, mark, ended }
+// A byte that stands between the pieces of a text.
+#[derive(Clone, Copy)]
+pub struct Separator(pub u8);
+
+impl Stop for Separator {
+    ghost stops = { λ s b. b == s.0 };
+
+    fn stops(&self, b: u8) -> bool {
+        b == self.0
     }
 }
 
-impl<B: Bytes> Bytes for UpTo<B> {
-    ghost left = { λ s. (if s.ended then [] else up_to s.mark (B.Bytes.left s.inner)) };
+// The bytes up to the first that `stop` stops at.
+#[derive(Clone, Copy)]
+pub struct UpTo<B, S> {
+    rest: B,
+    stop: S,
+}
+
+impl<B: Bytes, S: Stop> UpTo<B, S> {
+    pub fn new(rest: B, stop: S) -> UpTo<B, S>
+        ensures { ⟦<UpTo<B, S> as Bytes>⟧.left result ≡ until (S.Stop.stops stop) (B.Bytes.left rest) }
+    {
+        UpTo { rest, stop }
+    }
+}
+
+impl<B: Bytes, S: Stop> Bytes for UpTo<B, S> {
+    ghost left = { λ s. until (S.Stop.stops s.stop) (B.Bytes.left s.rest) };
 
     fn next(&mut self) -> Option<u8> {
-        if self.ended {
-            return None;
-        }
-        match self.inner.next() {
-            Some(b) if b != self.mark => Some(b),
-            _ => {
-                self.ended = true;
-                None
-            }
-        }
+        let mut rest = self.rest;
+        let b = rest.next().filter(|&b| !self.stop.stops(b))?;
+        self.rest = rest;
+        Some(b)
     }
 }
 
@@ -51,34 +65,57 @@ pub fn skip_past<B: Bytes>(bytes: &mut B, mark: u8) -> bool
     false
 }
 
-// The pieces between separators that are left of a text.
-#[derive(Clone, Copy)]
-pub struct Pieces<B> {
-    rest: B,
+// The pieces between separators that are left of a text: those of what stands past the last separator that was read, or none once there was none.
+#[derive(Drop)]
+pub struct Pieces<B: Bytes> {
+    rest: Option<B>,
     mark: u8,
-    ended: bool,
+}
+
+impl<B: Bytes> Model for Pieces<B> {
+    ghost Value = { List (List ℕ) };
+
+    ghost view = { λ p. elim p.rest [ Some text ↦ pieces p.mark (B.Bytes.left text) | None ↦ [] ] };
 }
 
 impl<B: Bytes> Pieces<B> {
     pub fn of(text: B, mark: u8) -> Pieces<B>
-        ensures { (if result.ended then [] else pieces result.mark (B.Bytes.left result.rest)) ≡ pieces mark (B.Bytes.left text) }
+        ensures { result ≡ pieces mark (B.Bytes.left text) }
     {
         Pieces {
-            rest: text,
+            rest: Some(text),
             mark,
-            ended: false,
         }
     }
+}
 
-    // The next piece.
-    pub fn next(&mut self) -> Option<UpTo<B>>
-        ensures { MatchOption result ((if self.old.ended then [] else pieces self.old.mark (B.Bytes.left self.old.rest)) ≡ []) (λ p. (if self.old.ended then [] else pieces self.old.mark (B.Bytes.left self.old.rest)) ≡ (if p.ended then [] else up_to p.mark (B.Bytes.left p.inner)) ∷ (if self.new.ended then [] else pieces self.new.mark (B.Bytes.left self.new.rest))) }
-    {
-        if self.ended {
-            return None;
-        }
-        let piece = UpTo::new(self.rest, self.mark);
-        self.ended = !skip_past(&mut self.rest, self.mark);
+impl<B: Bytes> Iterator for Pieces<B> {
+    ghost use Rattle.std.specs.Iterator.{YieldsFirstBy, item_count};
+
+    type Item = UpTo<B, Separator>;
+
+    ghost next_gives = { YieldsFirstBy ⟦<UpTo<B, Separator> as Bytes>⟧.left (λ s. s) };
+
+    ghost remaining = { item_count (λ s. s) };
+
+    fn next(&mut self) -> Option<UpTo<B, Separator>> {
+        let mut rest = self.rest?;
+        let piece = UpTo::new(rest, Separator(self.mark));
+        self.rest = skip_past(&mut rest, self.mark).then_some(rest);
         Some(piece)
+    }
+}
+
+// By hand, since the view forgets the fields and a derive would need them back.
+impl<B: Bytes> Clone for Pieces<B> {
+    ghost is_clone = { λ x y. y ≡ x };
+
+    ghost is_infallible = { λ _. ⊤ };
+
+    fn clone(&self) -> Result<Pieces<B>, AllocError> {
+        Ok(Pieces {
+            rest: self.rest,
+            mark: self.mark,
+        })
     }
 }

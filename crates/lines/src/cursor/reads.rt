@@ -1,41 +1,33 @@
 // What a cursor reads: a line's bytes without folds, and one line after another.
-ghost use Rattle.std.specs.Prelude.{◌≡◌, ◌≤◌, [], ◌∷◌, length, if◌then◌else◌};
-ghost use Rattle.lines.specs.Lines.{logical_lines, ends_at, fold_at};
+ghost use Rattle.std.specs.Prelude.{◌≡◌, ◌≤◌, false, [], ◌∷◌, length, MatchOption, IfSome};
+ghost use Rattle.lines.specs.Lines.{logical_lines, folds};
 ghost use Rattle.lines.specs.View.{rest, text, view, line_of};
 
 use super::Cursor;
 use text::Bytes;
 
-// Whether a line ends at `at`: CR LF.
-pub(crate) fn ends_at(bytes: &[u8], at: usize) -> bool
-    requires { at ≤ length bytes.now }
-    ensures { result ≡ ends_at bytes.now at }
-{
-    bytes.len() - at >= 2 && matches!((bytes[at], bytes[at + 1]), (b'\r', b'\n'))
-}
-
-// Whether a fold stands at `at`: CR LF and then a blank or a tab.
-fn folds_at(bytes: &[u8], at: usize) -> bool
-    requires { at ≤ length bytes.now }
-    ensures { result ≡ fold_at bytes.now at }
-{
-    bytes.len() - at >= 3
-        && matches!(
-            (bytes[at], bytes[at + 1], bytes[at + 2]),
-            (b'\r', b'\n', b' ' | b'\t')
-        )
-}
-
 impl<'a> Cursor<'a> {
     // At the start of the file's first line.
-    pub fn new(bytes: &'a [u8]) -> Cursor<'a>
-        requires { length bytes.now ≤ 60000 }
-        ensures { view result ≡ logical_lines bytes.now }
+    pub fn new(file: &'a [u8]) -> Cursor<'a>
+        ensures { view result ≡ logical_lines file.now }
     {
         Cursor {
-            bytes,
-            at: 0,
+            rest: file,
             place: 1,
+        }
+    }
+
+    // Goes on past the folds that stand here: CR LF and then a blank or a tab.
+    fn skip_folds(&mut self)
+        ensures same { rest self.new ≡ rest self.old }
+        ensures unfolded { folds self.new.rest.now ≡ false }
+        ensures on { length self.new.rest.now ≤ length self.old.rest.now }
+    {
+        while let [b'\r', b'\n', b' ' | b'\t', tail @ ..] = self.rest {
+            *self = Cursor {
+                rest: tail,
+                place: self.place + 1,
+            };
         }
     }
 
@@ -43,37 +35,39 @@ impl<'a> Cursor<'a> {
     pub fn skip_line(&mut self)
         ensures { view self.new ≡ (rest self.old).later }
     {
-        let mut at = self.at;
-        let mut place = self.place;
-        while at < self.bytes.len() {
-            if folds_at(self.bytes, at) {
-                at += 3;
-                place += 1;
-            } else if ends_at(self.bytes, at) {
-                self.at = at + 2;
-                self.place = place + 1;
-                return;
-            } else {
-                at += 1;
+        loop {
+            self.skip_folds();
+            match self.rest {
+                [b'\r', b'\n', tail @ ..] => {
+                    let place = self.place + 1;
+                    *self = Cursor { rest: tail, place };
+                    return;
+                }
+                [_, tail @ ..] => self.rest = tail,
+                [] => return,
             }
         }
-        self.at = at;
-        self.place = place;
     }
 
-    // Whether a line begins here: this one, before those after it.
-    pub fn more(&self) -> bool
-        ensures { view self.now ≡ (if result then line_of self.now ∷ (rest self.now).later else []) }
+    // The line that begins here, if one does; goes on to the start of the next.
+    pub fn next_line(&mut self) -> Option<Cursor<'a>>
+        ensures here { IfSome result (λ line. line ≡ self.old) }
+        ensures first { MatchOption result (view self.old ≡ []) (λ line. view self.old ≡ line_of line ∷ (rest line).later) }
+        ensures later { MatchOption result (view self.new ≡ []) (λ line. view self.new ≡ (rest line).later) }
     {
-        self.at < self.bytes.len()
+        if self.rest.is_empty() {
+            return None;
+        }
+        let line = *self;
+        self.skip_line();
+        Some(line)
     }
 
     // The number of the physical line, from 1.
     pub fn place(&self) -> usize
         ensures { result ≡ (line_of self.now).place }
     {
-        let Cursor { place, .. } = *self;
-        place
+        self.place
     }
 }
 
@@ -82,20 +76,13 @@ impl<'a> Bytes for Cursor<'a> {
     ghost left = { text };
 
     fn next(&mut self) -> Option<u8> {
-        let mut at = self.at;
-        let mut place = self.place;
-        while folds_at(self.bytes, at) {
-            at += 3;
-            place += 1;
+        self.skip_folds();
+        match self.rest {
+            [b'\r', b'\n', ..] | [] => None,
+            [b, tail @ ..] => {
+                self.rest = tail;
+                Some(*b)
+            }
         }
-        if at == self.bytes.len() {
-            return None;
-        }
-        if ends_at(self.bytes, at) {
-            return None;
-        }
-        self.at = at + 1;
-        self.place = place;
-        Some(self.bytes[at])
     }
 }

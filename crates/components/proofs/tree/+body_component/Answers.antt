@@ -7,36 +7,41 @@ use Rattle.components.specs.Events.{events}
 
 pub body-overflow_add-count : goal.body-overflow_add-count
 body-overflow_add-count t c =
-    let e = c.loop-line-test.ensures ∙ ap (λ ls. line_of c.loop-line.lines ∷ ls) (sym c.skip_line.ensures) in
+    let e = c.in-Some.ensures.first ∙ ap (λ ls. line_of c.in-Some.line ∷ ls) (sym c.in-Some.ensures.later) in
     let k = begin_count (view c.loop-line.lines) _ _ c.args.depth (text c.value_of.result) e c.if-named.ensures c.value_of.ensures in
-    omega (arith, k, c.in-Some.ensures.counted, few c.args.depth c.loop-line.lines, c.loop-line.invariant.1, few c.args.depth c.args.lines.now)
+    omega (arith, k, c.in_ok-count.ensures.counted, few c.args.depth c.loop-line.lines, c.loop-line.invariant.1, few c.args.depth c.args.lines.now)
 
-pub body-loop-line-preserved-in-Some : goal.body-loop-line-preserved-in-Some
-body-loop-line-preserved-in-Some t c =
-    let e = c.loop-line-test.ensures ∙ ap (λ ls. line_of c.loop-line.lines ∷ ls) (sym c.skip_line.ensures) in
-    let w = begin_walk (view c.loop-line.lines) _ _ _ (text c.args.name) (text c.value_of.result) _ e c.if-named.ensures c.value_of.ensures c.in-Some.ensures.left in
+pub body-loop-line-preserved-then-named : goal.body-loop-line-preserved-then-named
+body-loop-line-preserved-then-named t c =
+    let e = c.in-Some.ensures.first ∙ ap (λ ls. line_of c.in-Some.line ∷ ls) (sym c.in-Some.ensures.later) in
+    let w = begin_walk (view c.loop-line.lines) _ _ _ (text c.args.name) (text c.value_of.result) _ e c.if-named.ensures c.value_of.ensures c.in_ok-count.ensures.left in
     let k = begin_count (view c.loop-line.lines) _ _ c.args.depth (text c.value_of.result) e c.if-named.ensures c.value_of.ensures in
-    (sym w ∙ c.loop-line.invariant.0, omega (arith, k, c.in-Some.ensures.counted), omega (arith, ap length e, c.in-Some.ensures.on))
+    (sym w ∙ c.loop-line.invariant.0, omega (arith, k, c.in_ok-count.ensures.counted), omega (arith, ap length e, c.in_ok-count.ensures.on))
 
-pub body-returns-in-None : goal.body-returns-in-None
-body-returns-in-None t c =
-    let e = c.loop-line-test.ensures ∙ ap (λ ls. line_of c.loop-line.lines ∷ ls) (sym c.skip_line.ensures) in
-    let w = begin_walk (view c.loop-line.lines) _ _ _ (text c.args.name) (text c.value_of.result) _ e c.if-named.ensures c.value_of.ensures c.in-None.ensures.left in
-    record { left = sym w ∙ c.loop-line.invariant.0; on = omega (arith, ap length e, c.in-None.ensures.on); counted = tt }
+pub body-returns-in_err-count-clause-left : goal.body-returns-in_err-count-clause-left
+body-returns-in_err-count-clause-left t c =
+    let e = c.in-Some.ensures.first ∙ ap (λ ls. line_of c.in-Some.line ∷ ls) (sym c.in-Some.ensures.later) in
+    let w = begin_walk (view c.loop-line.lines) _ _ _ (text c.args.name) (text c.value_of.result) _ e c.if-named.ensures c.value_of.ensures c.in_err-count.ensures.left in
+    rw c.from_residual.ensures (sym w ∙ c.loop-line.invariant.0)
+
+pub body-returns-in_err-count-clause-on : goal.body-returns-in_err-count-clause-on
+body-returns-in_err-count-clause-on t c =
+    let e = c.in-Some.ensures.first ∙ ap (λ ls. line_of c.in-Some.line ∷ ls) (sym c.in-Some.ensures.later) in
+    omega (arith, ap length e, c.in_err-count.ensures.on)
 
 pub component-overflow_add-result : goal.component-overflow_add-result
-component-overflow_add-result t c = omega (arith, c.in-Some.ensures.counted, few (c.args.depth + 1) c.args.lines.now, c.events_begun.ensures.few)
+component-overflow_add-result t c = omega (arith, c.in_ok-inside.ensures.counted, few (c.args.depth + 1) c.args.lines.now, c.events_begun.ensures.few)
 
-pub component-returns-in-Some : goal.component-returns-in-Some
-component-returns-in-Some t c =
+pub component-returns : goal.component-returns
+component-returns t c =
     let q : (c.args.depth + 1) - 1 ≡ c.args.depth = omega arith in
     let k = ap (λ d. length (events d (view c.body.new.lines))) q in
     record {
-      left = c.in-Some.ensures.left ∙ sym (opens c.args.depth (text c.args.name) _ (omega arith));
-      on = c.in-Some.ensures.on;
-      counted = omega (arith, k, c.in-Some.ensures.counted, c.events_begun.ensures.value);
+      left = c.in_ok-inside.ensures.left ∙ sym (opens c.args.depth (text c.args.name) _ (omega arith));
+      on = c.in_ok-inside.ensures.on;
+      counted = omega (arith, k, c.in_ok-inside.ensures.counted, c.events_begun.ensures.value);
     }
 
-pub component-returns-in-None : goal.component-returns-in-None
-component-returns-in-None t c =
-    record { left = c.in-None.ensures.left ∙ sym (opens c.args.depth (text c.args.name) _ (omega arith)); on = c.in-None.ensures.on; counted = tt }
+pub component-returns-in_err-inside-clause-left : goal.component-returns-in_err-inside-clause-left
+component-returns-in_err-inside-clause-left t c =
+    rw c.from_residual.ensures (c.in_err-inside.ensures.left ∙ sym (opens c.args.depth (text c.args.name) _ (omega arith)))

@@ -1,22 +1,20 @@
-use Rattle.std.proofs.Common.{sym, ◌∙◌, arith}
-use Rattle.std.proofs.lemmas.List.{at_drop_all}
-use Rattle.lines.specs.Ended.{proper}
-use Rattle.lines.proofs.Folds.{within_end}
-use Rattle.lines.proofs.Ending.{past_ended, past_plain, at_stray}
+use Rattle.std.proofs.Common.{◌≡◌, false, ◌||◌, eqb, get_or, ◌∙◌, arith}
+use Rattle.std.proofs.lemmas.Bool.Decides.{nat_tests}
+use Rattle.lines.proofs.Folds.{Goes, from_start, ended_here, plain_here}
 use Rattle.lines.proofs.ended.well_ended.Goals as goal
+use Rattle.lines.proofs.ended.well_ended.Goals.{then-rest-lt2+in_default-1, else-rest-lt2+in_default-1}
 
-pub loop-at-preserved-then-ends_at : goal.loop-at-preserved-then-ends_at
-loop-at-preserved-then-ends_at c =
-    let e = sym c.if-ends_at.ensures in
-    (sym (past_ended c.loop-at.start c.args.file.now c.loop-at.at e) ∙ c.loop-at.invariant.0, within_end c.args.file.now c.loop-at.at e)
+pub loop-rest-init : goal.loop-rest-init
+loop-rest-init c = from_start c.args.file.now
 
-pub returns-then-breaks : goal.returns-then-breaks
-returns-then-breaks c =
-    sym (at_stray c.loop-at.start c.args.file.now c.loop-at.at c.loop-at-test.true (sym c.if-ends_at.ensures) (sym c.if-breaks.ensures)) ∙ c.loop-at.invariant.0
+pub loop-rest-preserved-in-10-rest-3 : goal.loop-rest-preserved-in-10-rest-3
+loop-rest-preserved-in-10-rest-3 c =
+    ended_here c.loop-rest.ended c.loop-rest.rest.now (record { room = omega arith; cr = omega arith; lf = omega arith }) ∙ c.loop-rest.invariant
 
-pub loop-at-preserved : goal.loop-at-preserved
-loop-at-preserved c =
-    (sym (past_plain c.loop-at.start c.args.file.now c.loop-at.at c.loop-at-test.true (sym c.if-ends_at.ensures) (sym c.if-breaks.ensures)) ∙ c.loop-at.invariant.0, omega arith)
-
-pub returns : goal.returns
-returns c = sym (at_drop_all (proper c.loop-at.start) c.args.file.now c.loop-at.at (omega arith)) ∙ c.loop-at.invariant.0
+pub loop-rest-preserved : goal.loop-rest-preserved
+loop-rest-preserved c =
+    let xs = c.loop-rest.rest.now in
+    let plain : (eqb (get_or xs 0 0) 13 || eqb (get_or xs 0 0) 10) ≡ false =
+    elim c.in-len1-up-1.branch [ then-rest-lt2+in_default-1 w ↦ grind (arith, nat_tests) | else-rest-lt2+in_default-1 w ↦ grind (arith, nat_tests) ] in
+    let goes : Goes xs = record { room = grind (arith, nat_tests); not_ended = λ h. grind (arith, nat_tests) } in
+    plain_here c.loop-rest.ended xs goes plain ∙ c.loop-rest.invariant

@@ -4,8 +4,8 @@ use Rattle.lines.specs.Lines.{logical_lines}
 use Rattle.lines.specs.View.{view}
 use Rattle.lines.proofs.machine.all_well_formed.Given as goal
 
-abbrev pub invariant-loop-lines : goal.invariant-loop-lines
-invariant-loop-lines l = all_well (view l.lines) ≡ all_well (logical_lines l.file)
+abbrev pub invariant-loop-line : goal.invariant-loop-line
+invariant-loop-line l = all_well (view l.lines) ≡ all_well (logical_lines l.file)
 
-abbrev pub decreases-loop-lines : goal.decreases-loop-lines
-decreases-loop-lines l = length (view l.lines)
+abbrev pub decreases-loop-line : goal.decreases-loop-line
+decreases-loop-line l = length (view l.lines)

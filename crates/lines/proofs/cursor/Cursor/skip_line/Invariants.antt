@@ -1,10 +1,9 @@
-use Rattle.std.proofs.Common.{◌≡◌, ◌+◌, ◌-◌, ◌≤◌, length, drop}
-use Rattle.lines.specs.Lines.{split}
+use Rattle.std.proofs.Common.{◌≡◌, length}
 use Rattle.lines.specs.View.{rest}
 use Rattle.lines.proofs.cursor.Cursor.skip_line.Given as goal
 
-abbrev pub invariant-loop-at : goal.invariant-loop-at
-invariant-loop-at l = ((split l.place (drop l.at l.self.bytes.now)).later ≡ (rest l.initial.self).later) × (l.at ≤ length l.self.bytes.now) × (l.place ≤ l.at + 1)
+abbrev pub invariant-loop-self : goal.invariant-loop-self
+invariant-loop-self l = (rest l.self).later ≡ (rest l.initial.self).later
 
-abbrev pub decreases-loop-at : goal.decreases-loop-at
-decreases-loop-at l = length l.self.bytes.now - l.at
+abbrev pub decreases-loop-self : goal.decreases-loop-self
+decreases-loop-self l = length l.self.rest.now

@@ -1,31 +1,19 @@
 use Rattle.std.proofs.Common.{sym, ap, ◌∙◌, arith}
-use Rattle.std.proofs.lemmas.List.{at_drop_all}
-use Rattle.lines.specs.Lines.{split, Rest}
-use Rattle.lines.proofs.Folds.{past_fold, past_byte, past_end, within}
+use Rattle.std.proofs.lemmas.Bool.Decides.{nat_tests}
+use Rattle.lines.specs.Lines.{Rest}
+use Rattle.lines.proofs.Folds.{Goes, past_byte}
 use Rattle.lines.proofs.cursor.reads.CursorBytes.next.Goals as goal
+use Rattle.lines.proofs.cursor.reads.CursorBytes.next.Goals.{then-this-lt2, else-this-lt2+in-13+in_default-1, else-this-lt2+in_default-1}
 
-pub loop-at-smaller : goal.loop-at-smaller
-loop-at-smaller c = omega (arith, within c.args.self.now.bytes.now c.loop-at.at (sym c.loop-at-test.ensures))
-
-pub loop-at-preserved : goal.loop-at-preserved
-loop-at-preserved c =
-    let e = sym c.loop-at-test.ensures in
-    let w = within c.args.self.now.bytes.now c.loop-at.at e in
-    (sym (past_fold c.loop-at.place c.args.self.now.bytes.now c.loop-at.at e) ∙ c.loop-at.invariant.0, w, omega arith)
-
-pub returns-then-at-self : goal.returns-then-at-self
-returns-then-at-self c =
-    let e = ap (λ (r : Rest). r.text) (sym c.loop-at.invariant.0 ∙ at_drop_all (split c.loop-at.place) c.args.self.now.bytes.now c.loop-at.at (omega arith)) in
-    record { read = e; ended = e }
-
-pub returns-then-ends_at : goal.returns-then-ends_at
-returns-then-ends_at c =
-    let e = ap (λ (r : Rest). r.text) (sym c.loop-at.invariant.0 ∙ past_end c.loop-at.place c.args.self.now.bytes.now c.loop-at.at (sym c.if-ends_at.ensures) (sym c.loop-at-test.ensures)) in
-    record { read = e; ended = e }
-
-pub returns : goal.returns
-returns c =
-    record {
-      read = ap (λ (r : Rest). r.text) (sym c.loop-at.invariant.0 ∙ past_byte c.loop-at.place c.args.self.now.bytes.now c.loop-at.at (omega arith) (sym c.if-ends_at.ensures));
-      ended = tt;
-    }
+pub returns-in-len1-up-clause-read : goal.returns-in-len1-up-clause-read
+returns-in-len1-up-clause-read c =
+    let xs = c.skip_folds.new.self.rest.now in
+    let goes : Goes xs = record {
+      room = grind (arith, nat_tests);
+      not_ended = λ h. elim c.in-len1-up-1.branch [
+        | then-this-lt2 w ↦ absurd (grind (arith, nat_tests))
+        | else-this-lt2+in-13+in_default-1 w ↦ grind (arith, nat_tests)
+        | else-this-lt2+in_default-1 w ↦ grind (arith, nat_tests)
+      ];
+    } in
+    ap (λ (r : Rest). r.text) (sym c.skip_folds.ensures.same ∙ past_byte c.skip_folds.new.self.place xs goes)
