@@ -65,7 +65,7 @@ weekday_inside m n b e =
 
 pub month_days_near : (r : Rule) (m : Stretch) (n : ℕ) → 1 ≤ m.size → month_days_give r m n ≡ true → Near m n
 month_days_near r m n h e =
-    of_some (Near m n) (λ v. (1 ≤ number_of v) × (number_of v ≤ 31)) (value_gives r.skip m n) (λ v q. value_near r.skip m n v q.0 h) (by_month_day r) (values_some r) e
+    of_some (Near m n) (λ v. (1 ≤ number_of v) × (number_of v ≤ 31)) (value_gives r.parts.skip m n) (λ v q. value_near r.parts.skip m n v q.0 h) (by_month_day r) (values_some r) e
 
 pub weekdays_inside : (r : Rule) (m : Stretch) (n : ℕ) → weekdays_give r m n ≡ true → (m.from ≤ n) × (n < m.from + m.size)
 weekdays_inside r m n e =
@@ -75,7 +75,7 @@ weekdays_near : (r : Rule) (m : Stretch) (n : ℕ) → weekdays_give r m n ≡ t
 weekdays_near r m n e = let w = weekdays_inside r m n e in record { from = w.0; to = omega arith }
 
 pub own_day_near : (r : Rule) (t : Date) (m : Stretch) (n : ℕ) → 1 ≤ t.day → 1 ≤ m.size → own_day_gives r t m n ≡ true → Near m n
-own_day_near r t m n g h e = value_near r.skip m n (FromStart t.day) g h e
+own_day_near r t m n g h e = value_near r.parts.skip m n (FromStart t.day) g h e
 
 -- ── years and months ──
 
@@ -135,7 +135,7 @@ module _ (a : Almanac) (l : Lawful a) where
       (λ x. in_a_month y n (chosen r s) (λ p. weekdays_give r (month_at s p) n) (λ p h k. weekdays_near r (month_at s p) n) x.1)
       (cond_ways (no_items (by_month r)) _ _ w.1))
       (λ w.
-      in_a_month y n (λ p. cond (no_items (by_month r)) (code_gives r.skip s own p) (chosen r s p)) (λ p. own_day_gives r t (month_at s p) n)
+      in_a_month y n (λ p. cond (no_items (by_month r)) (code_gives r.parts.skip s own p) (chosen r s p)) (λ p. own_day_gives r t (month_at s p) n)
       (λ p h k. own_day_near r t (month_at s p) n d (size_some y p h k))
       w.1)
       (cond_ways (not (no_items (by_day r))) _ _ v.1))

@@ -1,5 +1,5 @@
 -- A search through periods and their days: what is left of a period's days in the queue, and what the search finds.
-use Rattle.std.proofs.Common.{◌≡◌, ℕ, ◌+◌, ◌-◌, ◌*◌, ◌<◌, ◌≤◌, Bool, true, false, ltb, leb, List, ◌∷◌, take, Some, None, sym, refl, subst, ⊎_elim, not-suc-le-zero, arith}
+use Rattle.std.proofs.Common.{◌≡◌, ℕ, ◌+◌, ◌*◌, ◌<◌, ◌≤◌, Bool, true, false, ltb, leb, List, [], ◌∷◌, Some, None, sym, refl, subst, ⊎_elim, not-suc-le-zero, arith}
 use Rattle.std.specs.List.{ContainsAt as Has}
 use Rattle.std.proofs.lemmas.List.Sorted.{IsPermutation-sym}
 use Rattle.std.proofs.lemmas.Bool.{cases_lt, cond_both, leb-true, leb-false, ltb-true, ltb-false}
@@ -8,7 +8,7 @@ use Rattle.calendar.specs.Sheets.{Almanac, Stands}
 use Rattle.calendar.specs.Laws.{Lawful}
 use Rattle.calendar.proofs.Years.{stands_within}
 use Rattle.calendar.proofs.Naming.{month_of}
-use Rattle.queue.specs.Heap.{Heaped, Taken}
+use Rattle.queue.specs.Lent.{Holding, LeastTaken}
 use Rattle.queue.proofs.Members.{with_keeps, with_only}
 use Rattle.sources.specs.Sets.{Found}
 use Rattle.rules.specs.declared.checked.Rule.{Rule}
@@ -27,43 +27,41 @@ use Rattle.rules.proofs.Orderly.{counted_orderly}
 use Rattle.rules.proofs.Given.{range_bounds, range_from}
 use Rattle.rules.proofs.Leasts.{none_more, none_left, least_found, none_beyond}
 
--- what is left of a period's days: a queue of days that the period gives, with all of them from `low` on
-pub record Left (slots : List ℕ) (used : ℕ) (f : ℕ → Bool) (low : ℕ) : Type 0 where
-  pub heaped : Heaped ltb slots used
-  pub only : (n : ℕ) → Has (take used slots) n → f n ≡ true
-  pub all : (n : ℕ) → f n ≡ true → low ≤ n → Has (take used slots) n
+-- what is left of a period's days: days that the period gives, with all of them from `low` on
+pub record Left (days : List ℕ) (f : ℕ → Bool) (low : ℕ) : Type 0 where
+  pub only : (n : ℕ) → Has days n → f n ≡ true
+  pub all : (n : ℕ) → f n ≡ true → low ≤ n → Has days n
+
+no_entry : (days : List ℕ) (n : ℕ) → days ≡ [] → Has days n → ⊥
+no_entry days n e h = not-suc-le-zero (subst (λ (xs : List ℕ). Has xs n) e h).1
 
 -- at first all are left
-pub left_first : (s s' : List ℕ) (used most : ℕ) (f : ℕ → Bool) (low : ℕ) → Adds s s' 0 used most f → Left s' used f low
-left_first s s' used most f low x =
+pub left_first : (old new : Holding ℕ) (most : ℕ) (f : ℕ → Bool) (low : ℕ) → old.entries ≡ [] → Adds old new most f → Left new.entries f low
+left_first old new most f low none x =
     record {
-      heaped = x.heaped;
-      only = λ n h. ⊎_elim (λ (b : Has (take 0 s) n). absurd (not-suc-le-zero b.1)) (λ t. t) (x.only n h);
+      only = λ n h. ⊎_elim (λ (b : Has old.entries n). absurd (no_entry old.entries n none b)) (λ t. t) (x.only n h);
       all = λ n t _. x.added n t;
     }
 
 -- a day before `low` is taken out
-pub left_less : (s s' : List ℕ) (used d : ℕ) (f : ℕ → Bool) (low : ℕ) → Left s used f low → Taken ltb used s s' d → Heaped ltb s' (used - 1) → d < low → Left s' (used - 1) f low
-left_less s s' used d f low x t h b =
-    let back = IsPermutation-sym (take used s) (d ∷ take (used - 1) s') t.others in
+pub left_less : (old new : Holding ℕ) (d : ℕ) (f : ℕ → Bool) (low : ℕ) → Left old.entries f low → LeastTaken ltb old new d → d < low → Left new.entries f low
+left_less old new d f low x t b =
+    let back = IsPermutation-sym old.entries (d ∷ new.entries) t.others in
     record {
-      heaped = h;
-      only = λ n m. x.only n (with_keeps d (take (used - 1) s') (take used s) back n m);
+      only = λ n m. x.only n (with_keeps d new.entries old.entries back n m);
       all = λ n g late.
           ⊎_elim (λ (e : d ≡ n). absurd (let z : ⊥ = omega arith in z)) (λ m. m)
-          (with_only d (take (used - 1) s') (take used s) back n (x.all n g late));
+          (with_only d new.entries old.entries back n (x.all n g late));
     }
 
 -- the first day at or after `low` is the period's least from `low` on
-pub left_least : (s s' : List ℕ) (used d : ℕ) (f : ℕ → Bool) (low : ℕ) → Left s used f low → Taken ltb used s s' d → (f d ≡ true) × ((n : ℕ) → f n ≡ true → low ≤ n → d ≤ n)
-left_least s s' used d f low x t =
+pub left_least : (old new : Holding ℕ) (d : ℕ) (f : ℕ → Bool) (low : ℕ) → Left old.entries f low → LeastTaken ltb old new d → (f d ≡ true) × ((n : ℕ) → f n ≡ true → low ≤ n → d ≤ n)
+left_least old new d f low x t =
     (x.only d t.least.among, λ n g late. ltb-false n d (t.least.first n (x.all n g late)))
 
 -- nothing is left
-pub left_none : (s : List ℕ) (used : ℕ) (f : ℕ → Bool) (low : ℕ) → Left s used f low → used ≡ 0 → (n : ℕ) → f n ≡ true → low ≤ n → ⊥
-left_none s used f low x e n g late =
-    let h = subst (λ (k : ℕ). Has (take k s) n) e (x.all n g late) in
-    not-suc-le-zero h.1
+pub left_none : (days : List ℕ) (f : ℕ → Bool) (low : ℕ) → Left days f low → days ≡ [] → (n : ℕ) → f n ≡ true → low ≤ n → ⊥
+left_none days f low x e n g late = no_entry days n e (x.all n g late)
 
 module _ (a : Almanac) (l : Lawful a) (r : Rule) (start : ℕ) (t : Date) (ranged : in_range start ≡ true) (st : Stands a start t.year t.place t.day) where
   -- a period that is out of reach ends the search
@@ -84,18 +82,18 @@ module _ (a : Almanac) (l : Lawful a) (r : Rule) (start : ℕ) (t : Date) (range
       let o = month_of a start t.year t.place t.day st in
       let s = month_stands a l t.year t.place (stands_within a start t.year t.place t.day st).answered o.0 o.1 k in
       ((h, s.place_from), (h, (usable a l m.0 h).from m.1 s.place_from (s.place_to h)))
-  placed_of Weekly k e = let h = leb-true (week_of (remainder r.week_start) start + 7 * k) 803168 e in (omega arith, (tt, omega arith))
+  placed_of Weekly k e = let h = leb-true (week_of (remainder r.parts.week_start) start + 7 * k) 803168 e in (omega arith, (tt, omega arith))
   placed_of Daily k e = let h = leb-true (start + k) 803168 e in (omega arith, (tt, omega arith))
 
   module _ (low : ℕ) (late : start ≤ low) (p : Period) (x : Reached a r start t low p) where
     pub in_reach_placed : reachable a p ≡ true → Placed a p
     in_reach_placed e =
-        subst (Placed a) (sym x.counts) (placed_of r.frequency (x.which * r.interval) (subst (λ (q : Period). reachable a q ≡ true) x.counts e)).0
+        subst (Placed a) (sym x.counts) (placed_of r.parts.frequency (x.which * r.parts.interval) (subst (λ (q : Period). reachable a q ≡ true) x.counts e)).0
 
     -- there are no more periods than days
     pub which_few : reachable a p ≡ true → x.which ≤ 804000
     which_few e =
-        let o = (placed_of r.frequency (x.which * r.interval) (subst (λ (q : Period). reachable a q ≡ true) x.counts e)).1 in
+        let o = (placed_of r.parts.frequency (x.which * r.parts.interval) (subst (λ (q : Period). reachable a q ≡ true) x.counts e)).1 in
         let f = o.1 in
         ⊎_elim (λ (c : 0 < x.which). let b = (counted_move a l r start t ranged st).begins x.which c o.0 in omega arith)
         (λ (c : x.which ≤ 0). omega arith)

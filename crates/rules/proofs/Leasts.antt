@@ -12,10 +12,6 @@ use Rattle.rules.proofs.Orderly.{Orderly}
 use Rattle.rules.proofs.Given.{day_of, given_by}
 
 module _ (a : Almanac) (r : Rule) (start : ℕ) (t : Date) (low : ℕ) where
-  -- the search begins, and goes on
-  pub none_yet : NoneBefore a r start t low 0
-  none_yet j lt n e lo hi = omega arith
-
   pub none_more : (i : ℕ) → NoneBefore a r start t low i → GivesNone a r start t low i → NoneBefore a r start t low (i + 1)
   none_more i before here j lt =
       ⊎_elim (λ (c : j < i). before j c) (λ (c : i ≤ j). let e : i ≡ j = omega arith in subst (GivesNone a r start t low) e here) (cases_lt j i)

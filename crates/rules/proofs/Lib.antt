@@ -13,3 +13,4 @@ pub mod Leasts
 pub mod Sized
 pub mod Finding
 pub mod Stepping
+pub mod PartsSay

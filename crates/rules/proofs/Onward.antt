@@ -135,8 +135,8 @@ module _ (a : Almanac) (l : Lawful a) (r : Rule) (start : ℕ) (t : Date) (range
       }
   by_frequency Weekly =
       let low = leb-true 693596 start (and_parts (leb 693596 start) (leb start 803168) ranged).0 in
-      let b = week_of (remainder r.week_start) start in
-      let here = week_has r.week_start start (omega arith) in
+      let b = week_of (remainder r.parts.week_start) start in
+      let here = week_has r.parts.week_start start (omega arith) in
       let of : (k n : ℕ) → period_gives a r start t (period_of Weekly a r start t k) n ≡ true → (b + 7 * k ≤ n) × (n < b + 7 * k + 7) =
       λ k n e. week_bounds a r start (b + 7 * k) n e in
       record {
@@ -156,8 +156,8 @@ module _ (a : Almanac) (l : Lawful a) (r : Rule) (start : ℕ) (t : Date) (range
       }
 
   pub periods_move : Moves a start (period a r start t) (λ k n. period_gives a r start t (period a r start t k) n)
-  periods_move = by_frequency r.frequency
+  periods_move = by_frequency r.parts.frequency
 
   -- the periods that count
   pub counted_move : Moves a start (counted_period a r start t) (λ i n. period_gives a r start t (counted_period a r start t i) n)
-  counted_move = every_ith a start (period a r start t) (λ k n. period_gives a r start t (period a r start t k) n) r.interval (interval_some r) periods_move
+  counted_move = every_ith a start (period a r start t) (λ k n. period_gives a r start t (period a r start t k) n) r.parts.interval (interval_some r) periods_move

@@ -1,7 +1,7 @@
 -- What the searches by tests say: of the numbers below a bound, of a list's elements, and of the first that passes.
-use Rattle.std.proofs.Common.{◌≡◌, ℕ, zero, suc, ◌+◌, ◌<◌, ◌≤◌, Bool, true, false, cond, ◌⊎◌, List, [], ◌∷◌, length, get_or, Some, None, sym, refl, ap, ◌∙◌, subst, inl, inr, ⊎_elim, le_of_suc-le-suc, not-suc-le-zero, arith}
+use Rattle.std.proofs.Common.{◌≡◌, ℕ, zero, suc, ◌+◌, ◌<◌, ◌≤◌, Bool, true, false, cond, ◌⊎◌, List, [], ◌∷◌, length, get_or, Some, None, sym, refl, ap, ◌∙◌, subst, inl, inr, ⊎_elim, not-suc-le-zero, arith}
 use Rattle.std.specs.List.{AllByRecursion}
-use Rattle.std.proofs.lemmas.Bool.{cases_lt, cases_Bool, and_parts, or_left, or_right, or_from, or_cases, true≢false}
+use Rattle.std.proofs.lemmas.Bool.{cases_lt, cases_Bool, and_parts, or_left, or_right, or_cases, true≢false}
 use Rattle.rules.specs.Parts.{some_of, each_of}
 use Rattle.rules.specs.Meaning.{some_below, first_from}
 
@@ -26,16 +26,7 @@ below_found f (suc n) t =
     (λ e. let r = below_found f n e in (r.0, omega (arith, r.1), r.2))
     (or_cases (f n) (some_below f n) t)
 
-pub below_none : (f : ℕ → Bool) (n : ℕ) → ((k : ℕ) → k < n → f k ≡ false) → some_below f n ≡ false
-below_none f zero none = refl
-below_none f (suc n) none = or_from (f n) (some_below f n) (none n (omega arith)) (below_none f n (λ k h. none k (omega arith)))
-
 -- ── elements of a list ──
-
-pub of_from : {X : Type 0} (f : X → Bool) (xs : List X) (i : ℕ) (d : X) → i < length xs → f (get_or xs i d) ≡ true → some_of f xs ≡ true
-of_from f [] i d h t = absurd (not-suc-le-zero h)
-of_from f (x ∷ xs) zero d h t = or_left (f x) (some_of f xs) t
-of_from f (x ∷ xs) (suc i) d h t = or_right (f x) (some_of f xs) (of_from f xs i d (le_of_suc-le-suc h) t)
 
 -- an element that passes, by its place
 pub of_found : {X : Type 0} (f : X → Bool) (xs : List X) (d : X) → some_of f xs ≡ true → (i : ℕ) × (i < length xs) × (f (get_or xs i d) ≡ true)
@@ -53,10 +44,6 @@ of_some Q P f h (x ∷ xs) a t = ⊎_elim (λ e. h x a.0 e) (λ e. of_some Q P f
 pub of_any : {X : Type 0} (Q : Type 0) (f : X → Bool) → ((x : X) → f x ≡ true → Q) → (xs : List X) → some_of f xs ≡ true → Q
 of_any Q f h [] t = absurd (true≢false (sym t))
 of_any Q f h (x ∷ xs) t = ⊎_elim (λ e. h x e) (λ e. of_any Q f h xs e) (or_cases (f x) (some_of f xs) t)
-
-pub of_none : {X : Type 0} (f : X → Bool) (xs : List X) → AllByRecursion (λ x. f x ≡ false) xs → some_of f xs ≡ false
-of_none f [] a = refl
-of_none f (x ∷ xs) a = or_from (f x) (some_of f xs) a.0 (of_none f xs a.1)
 
 -- every element passes
 pub each_all : {X : Type 0} (P : X → Type 0) (f : X → Bool) → ((x : X) → f x ≡ true → P x) → (xs : List X) → each_of f xs ≡ true → AllByRecursion P xs

@@ -1,39 +1,9 @@
--- Loops that look for an element, or a number, that passes a test.
-use Rattle.std.proofs.Common.{◌≡◌, ℕ, zero, suc, ◌+◌, ◌<◌, ◌≤◌, Bool, true, false, ◌&&◌, ◌||◌, eqb, ltb, leb, List, [], ◌∷◌, length, get_or, take, drop, sym, refl, ap, ◌∙◌, ⊎_elim, le_of_suc-le-suc, not-suc-le-zero, add-one, arith}
-use Rattle.std.proofs.lemmas.List.{at_drop_more, at_drop_all}
-use Rattle.std.proofs.lemmas.Bool.{or_left, or_right, or_from, or_cases, and_parts, and_from, and_right, le-leb, leb-true, lt-ltb, le-ltb, eq-eqb, ne_eqb, cases_lt, cases_order, true≢false}
+-- Tests over lists and over days in a row.
+use Rattle.std.proofs.Common.{◌≡◌, ℕ, zero, suc, ◌+◌, ◌<◌, Bool, true, false, ◌&&◌, ◌||◌, eqb, ltb, leb, List, [], ◌∷◌, length, get_or, take, sym, refl, ap, ◌∙◌, ⊎_elim, le_of_suc-le-suc, not-suc-le-zero, arith}
+use Rattle.std.proofs.lemmas.Bool.{or_cases, and_parts, and_from, and_right, le-leb, leb-true, lt-ltb, le-ltb, eq-eqb, ne_eqb, cases_order, true≢false}
 use Rattle.rules.specs.declared.parts.Position.{Position}
 use Rattle.rules.specs.declared.parts.Position.TheVariants.{FromStart, FromEnd}
 use Rattle.rules.specs.Parts.{some_of, each_of, no_items, position_ok}
-use Rattle.rules.specs.Meaning.{some_below}
-
--- what is left of the list decides
-module _ {X : Type 0} (f : X → Bool) (xs : List X) (i : ℕ) where
-  -- the next element passes
-  pub passes_here : (d : X) {b : Bool} → i < length xs → some_of f (drop i xs) ≡ some_of f xs → b ≡ f (get_or xs i d) → b ≡ true → true ≡ some_of f xs
-  passes_here d h e t p =
-      sym (sym e ∙ at_drop_more (some_of f) xs i d h ∙ or_left (f (get_or xs i d)) (some_of f (drop (i + 1) xs)) (sym t ∙ p))
-
-  -- it does not, and the rest decides
-  pub passes_on : (d : X) {b : Bool} → i < length xs → some_of f (drop i xs) ≡ some_of f xs → b ≡ f (get_or xs i d) → b ≡ false → some_of f (drop (i + 1) xs) ≡ some_of f xs
-  passes_on d h e t p =
-      sym (at_drop_more (some_of f) xs i d h ∙ ap (λ (b : Bool). b || some_of f (drop (i + 1) xs)) (sym t ∙ p)) ∙ e
-
-  -- nothing is left
-  pub passes_none : length xs ≤ i → some_of f (drop i xs) ≡ some_of f xs → false ≡ some_of f xs
-  passes_none h e = sym (at_drop_all (some_of f) xs i h) ∙ e
-
--- a search through the numbers below n, from 0 up
-module _ (f : ℕ → Bool) where
-  pub below_here : (n i : ℕ) → i < n → f i ≡ true → true ≡ some_below f n
-  below_here zero i h t = absurd (not-suc-le-zero h)
-  below_here (suc n) i h t =
-      ⊎_elim (λ (l : i < n). sym (or_right (f n) (some_below f n) (sym (below_here n i l t))))
-      (λ (l : n ≤ i). let e : i ≡ n = omega arith in sym (or_left (f n) (some_below f n) (sym (ap f e) ∙ t)))
-      (cases_lt i n)
-
-  pub below_on : (i : ℕ) → some_below f i ≡ false → f i ≡ false → some_below f (i + 1) ≡ false
-  below_on i e t = rw add-one (or_from (f i) (some_below f i) t e)
 
 -- every element of a list that passes as a whole
 pub each_at : {X : Type 0} (f : X → Bool) (xs : List X) (i : ℕ) (d : X) → each_of f xs ≡ true → i < length xs → f (get_or xs i d) ≡ true
@@ -109,3 +79,7 @@ below_next w n d =
 pub empty_items : {X : Type 0} (xs : List X) → eqb (length xs) 0 ≡ no_items xs
 empty_items [] = refl
 empty_items (x ∷ xs) = ne_eqb (suc (length xs)) 0 (λ e. omega arith)
+
+-- a limit that is there passes what one of its elements passes
+pub limited : {X : Type 0} (f : X → Bool) (xs : List X) {e r : Bool} → e ≡ eqb (length xs) 0 → e ≡ false → r ≡ some_of f xs → r ≡ (no_items xs || some_of f xs)
+limited f xs l e r = r ∙ ap (λ (b : Bool). b || some_of f xs) (sym e ∙ l ∙ empty_items xs)

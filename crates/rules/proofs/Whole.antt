@@ -41,7 +41,7 @@ module _ (r : Rule) (t : Date) (own : MonthCode) (s : Sheet) (n : ℕ) where
   pub year_by_months : by_day_alone r ≡ false → year_gives r t own s n ≡ some_month s (λ p. taken r own s p && in_month r t.day (month_at s p) n)
   year_by_months e =
       split (no_items (by_month_day r)) (no_items (by_day r)) (no_items (by_month r)) (weekday_passes r n) (weekdays_give r (whole_year s) n)
-      (λ i. chosen r s (i + 1)) (λ i. month_days_give r (month_at s (i + 1)) n) (λ i. weekdays_give r (month_at s (i + 1)) n) (λ i. code_gives r.skip s own (i + 1)) (λ i. own_day_gives r t (month_at s (i + 1)) n) s.months e
+      (λ i. chosen r s (i + 1)) (λ i. month_days_give r (month_at s (i + 1)) n) (λ i. weekdays_give r (month_at s (i + 1)) n) (λ i. code_gives r.parts.skip s own (i + 1)) (λ i. own_day_gives r t (month_at s (i + 1)) n) s.months e
 
 alone : (no-days no-week no-months limit a b c : Bool) → (no-days && (not no-week && no-months)) ≡ true → cond (not no-days) a (cond (not no-week) (cond no-months b c) limit) ≡ b
 alone true false true limit a b c e = refl

@@ -1,7 +1,7 @@
 -- What the parts of the search for a rule's days answer.
-use Rattle.std.specs.Prelude.{◌≡◌, ℕ, ◌+◌, ◌≤◌, Bool, true, false, cond, not, ◌&&◌, ◌||◌, ◌⊎◌, List, take, Some, None, Option, ◌==◌, nat_lt}
+use Rattle.std.specs.Prelude.{◌≡◌, ℕ, ◌+◌, ◌≤◌, Bool, true, false, cond, not, ◌&&◌, ◌||◌, ◌⊎◌, length, Some, None, Option, ◌==◌}
 use Rattle.std.specs.List.{ContainsAt as Has}
-use Rattle.queue.specs.Heap.{Heaped}
+use Rattle.queue.specs.Lent.{Holding}
 use Rattle.calendar.specs.declared.sheet.MonthCode.{MonthCode}
 use Rattle.calendar.specs.declared.sheet.Sheet.{Sheet}
 use Rattle.calendar.specs.Sheets.{Almanac, Answered, days_of}
@@ -23,21 +23,21 @@ pub record Small (m : Stretch) : Type 0 where
   pub from : m.from ≤ 804000
   pub size : m.size ≤ 385
 
--- a queue's places in use, before and after days are added: at most `most` more, still a queue, and holding what they held
--- and the days that pass f, and nothing else
-pub record Adds (slots slots' : List ℕ) (used used' most : ℕ) (f : ℕ → Bool) : Type 0 where
-  pub few : used' ≤ used + most
-  pub heaped : Heaped nat_lt slots' used'
-  pub kept : (n : ℕ) → Has (take used slots) n → Has (take used' slots') n
-  pub added : (n : ℕ) → f n ≡ true → Has (take used' slots') n
-  pub only : (n : ℕ) → Has (take used' slots') n → Has (take used slots) n ⊎ (f n ≡ true)
+-- a queue before and after days are added: at most `most` entries more, in as many places, and holding what it held and
+-- the days that pass f, and nothing else
+pub record Adds (old new : Holding ℕ) (most : ℕ) (f : ℕ → Bool) : Type 0 where
+  pub few : length new.entries ≤ length old.entries + most
+  pub places : new.places ≡ old.places
+  pub kept : (n : ℕ) → Has old.entries n → Has new.entries n
+  pub added : (n : ℕ) → f n ≡ true → Has new.entries n
+  pub only : (n : ℕ) → Has new.entries n → Has old.entries n ⊎ (f n ≡ true)
 
 -- what the parts of a rule give in a month of the stretch m, if DTSTART is day d of its month: BYMONTHDAY's values, limited
 -- by BYDAY, else BYDAY's weekdays, else DTSTART's own day
 abbrev pub in_month : Rule → ℕ → Stretch → ℕ → Bool
 in_month r d m n =
     cond (not (no_items (by_month_day r))) (weekday_passes r n && month_days_give r m n)
-    (cond (not (no_items (by_day r))) (weekdays_give r m n) (value_gives r.skip m n (FromStart d)))
+    (cond (not (no_items (by_day r))) (weekdays_give r m n) (value_gives r.parts.skip m n (FromStart d)))
 
 -- a sheet whose months and days are those of a calendar
 pub record Usable (s : Sheet) : Type 0 where
@@ -50,7 +50,7 @@ pub record Usable (s : Sheet) : Type 0 where
 -- the month at place p is one whose days a year gives: one of BYMONTH's, else every one under BYMONTHDAY, else that of
 -- DTSTART's own code
 abbrev pub taken : Rule → MonthCode → Sheet → ℕ → Bool
-taken r own s p = cond (no_items (by_month r)) (not (no_items (by_month_day r)) || code_gives r.skip s own p) (chosen r s p)
+taken r own s p = cond (no_items (by_month r)) (not (no_items (by_month_day r)) || code_gives r.parts.skip s own p) (chosen r s p)
 
 -- BYDAY stands alone, so that its weekdays are counted in the whole year
 abbrev pub by_day_alone : Rule → Bool

@@ -2,3 +2,4 @@ pub mod Parts
 pub mod Meaning
 pub mod Found
 pub mod Onward
+pub mod Making

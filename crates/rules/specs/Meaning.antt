@@ -4,7 +4,8 @@ use Rattle.days.specs.Numbers.{in_range, remainder}
 use Rattle.days.specs.Months.{before, length_at}
 use Rattle.calendar.specs.declared.sheet.MonthCode.{MonthCode}
 use Rattle.calendar.specs.declared.sheet.Sheet.{Sheet}
-use Rattle.calendar.specs.Sheets.{Almanac, lengths_of, days_of, code_at}
+use Rattle.calendar.specs.Sheets.{Almanac, plain_code, lengths_of, days_of, codes_of, code_at}
+use Rattle.calendar.specs.Dates.{is_same}
 use Rattle.calendar.specs.Laws.{Lawful}
 use Rattle.rules.specs.declared.checked.Rule.{Rule}
 use Rattle.rules.specs.declared.parts.ByDay.{ByDay}
@@ -17,7 +18,7 @@ use Rattle.rules.specs.declared.parts.Skip.TheVariants.{Omit, Backward, Forward}
 use Rattle.rules.specs.declared.period.Period.{Period}
 use Rattle.rules.specs.declared.period.Stretch.{Stretch}
 use Rattle.rules.specs.declared.period.Period.TheVariants.{Year, Month, Week, Day}
-use Rattle.rules.specs.Parts.{some_of, no_items, codes_in, values_in, weekdays_in}
+use Rattle.rules.specs.Parts.{some_of, no_items}
 
 -- one of the numbers below n passes
 abbrev pub some_below : (ℕ → Bool) → ℕ → Bool
@@ -68,29 +69,19 @@ date_of a n = date_of_year a n (year_of a n)
 
 -- ── a code in a year ──
 
-abbrev pub same_flag : Bool → Bool → Bool
-same_flag true b = b
-same_flag false b = not b
-
-abbrev pub same_code : MonthCode → MonthCode → Bool
-same_code c d = c.number == d.number && same_flag c.leap d.leap
-
-abbrev pub plain : ℕ → MonthCode
-plain n = record { number = n; leap = false }
-
 -- the year has a month of the code
 abbrev pub has_code : Sheet → MonthCode → Bool
-has_code s c = some_below (λ i. same_code (code_at s (i + 1)) c) s.months
+has_code s c = some_of (λ d. is_same d c) (codes_of s)
 
 -- what stands in for the leap month nL in a year that lacks it
 abbrev pub stands_in : Skip → ℕ → MonthCode → Bool
 stands_in Omit n d = false
-stands_in Backward n d = same_code d (plain n)
-stands_in Forward n d = same_code d (plain (n + 1))
+stands_in Backward n d = is_same d (plain_code n)
+stands_in Forward n d = is_same d (plain_code (n + 1))
 
 -- the month at place p is the one that the code gives in the year
 abbrev pub code_gives : Skip → Sheet → MonthCode → ℕ → Bool
-code_gives k s c p = same_code (code_at s p) c || ((c.leap && not (has_code s c)) && stands_in k c.number (code_at s p))
+code_gives k s c p = is_same (code_at s p) c || ((c.leap && not (has_code s c)) && stands_in k c.number (code_at s p))
 
 -- ── a value in a month ──
 
@@ -122,13 +113,13 @@ weekday_gives m n b = inside m n && (on_weekday n b && in_position m n b.positio
 -- ── the parts of a rule ──
 
 abbrev pub by_month : Rule → List MonthCode
-by_month r = codes_in r.months
+by_month r = r.parts.months
 
 abbrev pub by_month_day : Rule → List Position
-by_month_day r = values_in r.month_days
+by_month_day r = r.parts.month_days
 
 abbrev pub by_day : Rule → List ByDay
-by_day r = weekdays_in r.weekdays
+by_day r = r.parts.weekdays
 
 -- ── limits: each looks at a day's own date ──
 
@@ -136,7 +127,7 @@ abbrev pub weekday_passes : Rule → ℕ → Bool
 weekday_passes r n = no_items (by_day r) || some_of (on_weekday n) (by_day r)
 
 abbrev pub code_passes : Rule → MonthCode → Bool
-code_passes r c = no_items (by_month r) || some_of (same_code c) (by_month r)
+code_passes r c = no_items (by_month r) || some_of (λ d. is_same d c) (by_month r)
 
 -- the value names the day d of a month of length l
 abbrev pub names : ℕ → ℕ → Position → Bool
@@ -159,17 +150,17 @@ some_month s f = some_below (λ i. f (i + 1)) s.months
 
 -- the month at place p is one of BYMONTH's, as SKIP has it
 abbrev pub chosen : Rule → Sheet → ℕ → Bool
-chosen r s p = some_of (λ c. code_gives r.skip s c p) (by_month r)
+chosen r s p = some_of (λ c. code_gives r.parts.skip s c p) (by_month r)
 
 -- a value of BYMONTHDAY gives n in the month m; a weekday of BYDAY does; DTSTART's day of the month does
 abbrev pub month_days_give : Rule → Stretch → ℕ → Bool
-month_days_give r m n = some_of (value_gives r.skip m n) (by_month_day r)
+month_days_give r m n = some_of (value_gives r.parts.skip m n) (by_month_day r)
 
 abbrev pub weekdays_give : Rule → Stretch → ℕ → Bool
 weekdays_give r m n = some_of (weekday_gives m n) (by_day r)
 
 abbrev pub own_day_gives : Rule → Date → Stretch → ℕ → Bool
-own_day_gives r t m n = value_gives r.skip m n (FromStart t.day)
+own_day_gives r t m n = value_gives r.parts.skip m n (FromStart t.day)
 
 -- the year of the sheet s gives n; DTSTART has the date t, and own is its month's code
 abbrev pub year_gives : Rule → Date → MonthCode → Sheet → ℕ → Bool
@@ -178,7 +169,7 @@ year_gives r t own s n =
     (weekday_passes r n && some_month s (λ p. (no_items (by_month r) || chosen r s p) && month_days_give r (month_at s p) n))
     (cond (not (no_items (by_day r)))
     (cond (no_items (by_month r)) (weekdays_give r (whole_year s) n) (some_month s (λ p. chosen r s p && weekdays_give r (month_at s p) n)))
-    (some_month s (λ p. cond (no_items (by_month r)) (code_gives r.skip s own p) (chosen r s p) && own_day_gives r t (month_at s p) n)))
+    (some_month s (λ p. cond (no_items (by_month r)) (code_gives r.parts.skip s own p) (chosen r s p) && own_day_gives r t (month_at s p) n)))
 
 -- the month at place p gives n
 abbrev pub month_gives : Rule → Date → Sheet → ℕ → ℕ → Bool
@@ -221,15 +212,15 @@ month_after a m (suc k) = next_month a (month_after a m k)
 abbrev pub period_of : Frequency → Almanac → Rule → ℕ → Date → ℕ → Period
 period_of Yearly a r start t k = Year (t.year + k)
 period_of Monthly a r start t k = let m = month_after a (t.year, t.place) k in Month m.0 m.1
-period_of Weekly a r start t k = Week (week_of (remainder r.week_start) start + 7 * k)
+period_of Weekly a r start t k = Week (week_of (remainder r.parts.week_start) start + 7 * k)
 period_of Daily a r start t k = Day (start + k)
 
 abbrev pub period : Almanac → Rule → ℕ → Date → ℕ → Period
-period a r start t k = period_of r.frequency a r start t k
+period a r start t k = period_of r.parts.frequency a r start t k
 
 -- only every INTERVAL-th period counts: the i-th that counts
 abbrev pub counted_period : Almanac → Rule → ℕ → Date → ℕ → Period
-counted_period a r start t i = period a r start t (i * r.interval)
+counted_period a r start t i = period a r start t (i * r.parts.interval)
 
 -- ── the rule's days ──
 

@@ -38,7 +38,7 @@ Next a r start t low i None = NoneFrom a r start t low (i + 1)
 abbrev pub Steps : Almanac → Period → ℕ → Option Period → Type 0
 Steps a p interval q =
     (r : Rule) (start : ℕ) (t : Date) (low i : ℕ) → in_range start ≡ true → Stands a start t.year t.place t.day
-    → interval ≡ r.interval → p ≡ counted_period a r start t i → Next a r start t low i q
+    → interval ≡ r.parts.interval → p ≡ counted_period a r start t i → Next a r start t low i q
 
 -- the month n months after m, or none if a month on the way there is of a year that the almanac does not answer
 abbrev pub MonthsOn : Almanac → ℕ × ℕ → ℕ → Option (ℕ × ℕ) → Type 0

@@ -1,37 +1,24 @@
--- The parts of a rule as lists, and when they fit together.
-use Rattle.std.specs.Prelude.{ℕ, Bool, true, false, not, ◌&&◌, ◌||◌, List, [], ◌∷◌, take, Some, None, Option, nat_le}
+-- The parts of a rule, and when they fit together.
+use Rattle.std.specs.Prelude.{ℕ, Bool, true, false, not, ◌&&◌, ◌||◌, List, [], ◌∷◌, length, Some, None, Option, nat_le}
+use Rattle.std.specs.List.{list_any, list_all}
 use Rattle.calendar.specs.declared.sheet.MonthCode.{MonthCode}
 use Rattle.rules.specs.declared.parts.Frequency.{Frequency}
 use Rattle.rules.specs.declared.parts.Frequency.TheVariants.{Yearly, Monthly, Weekly, Daily}
 use Rattle.rules.specs.declared.parts.Position.{Position}
 use Rattle.rules.specs.declared.parts.Position.TheVariants.{FromStart, FromEnd}
 use Rattle.rules.specs.declared.parts.ByDay.{ByDay}
-use Rattle.rules.specs.declared.parts.Months.{Months}
-use Rattle.rules.specs.declared.parts.MonthDays.{MonthDays}
-use Rattle.rules.specs.declared.parts.Weekdays.{Weekdays}
+use Rattle.rules.specs.declared.parts.Parts.{Parts}
 
 -- some element passes, and every one
 abbrev pub some_of : {X : Type 0} → (X → Bool) → List X → Bool
-some_of f [] = false
-some_of f (x ∷ xs) = f x || some_of f xs
+some_of f xs = list_any f xs
 
 abbrev pub each_of : {X : Type 0} → (X → Bool) → List X → Bool
-each_of f [] = true
-each_of f (x ∷ xs) = f x && each_of f xs
+each_of f xs = list_all f xs
 
 abbrev pub no_items : {X : Type 0} → List X → Bool
 no_items [] = true
 no_items (x ∷ xs) = false
-
--- the lists of BYMONTH, BYMONTHDAY and BYDAY, empty where the part is absent
-abbrev pub codes_in : Months → List MonthCode
-codes_in m = take m.len m.at
-
-abbrev pub values_in : MonthDays → List Position
-values_in m = take m.len m.at
-
-abbrev pub weekdays_in : Weekdays → List ByDay
-weekdays_in w = take w.len w.at
 
 -- a position that is not 0 and at most `most`
 abbrev pub position_ok : ℕ → Position → Bool
@@ -62,19 +49,24 @@ takes_month_days Monthly = true
 takes_month_days Weekly = false
 takes_month_days Daily = true
 
-abbrev pub lists_fit : Months → MonthDays → Weekdays → Bool
-lists_fit m d w = nat_le m.len 16 && (nat_le d.len 62 && nat_le w.len 16)
+-- the lists of BYMONTH, BYMONTHDAY and BYDAY, empty where the part is absent, are no longer than they may be
+abbrev pub lists_fit : List MonthCode → List Position → List ByDay → Bool
+lists_fit m d w = nat_le (length m) 16 && (nat_le (length d) 62 && nat_le (length w) 16)
 
-abbrev pub numbers_fit : ℕ → Months → MonthDays → Weekdays → Bool
+abbrev pub numbers_fit : ℕ → List MonthCode → List Position → List ByDay → Bool
 numbers_fit interval m d w =
     (nat_le 1 interval && nat_le interval 999)
-    && (each_of code_ok (codes_in m) && (each_of (position_ok 31) (values_in d) && each_of (λ b. number_ok b.position) (weekdays_in w)))
+    && (each_of code_ok m && (each_of (position_ok 31) d && each_of (λ b. number_ok b.position) w))
 
 -- BYMONTHDAY does not stand in weeks, and a numbered weekday stands in months and years only, without BYMONTHDAY
-abbrev pub parts_fit : Frequency → MonthDays → Weekdays → Bool
+abbrev pub parts_fit : Frequency → List Position → List ByDay → Bool
 parts_fit f d w =
-    (no_items (values_in d) || takes_month_days f)
-    && (not (some_of (λ b. numbered b.position) (weekdays_in w)) || (takes_numbers f && no_items (values_in d)))
+    (no_items d || takes_month_days f)
+    && (not (some_of (λ b. numbered b.position) w) || (takes_numbers f && no_items d))
 
-abbrev pub well_formed : Frequency → ℕ → Months → MonthDays → Weekdays → Bool
+abbrev pub well_formed : Frequency → ℕ → List MonthCode → List Position → List ByDay → Bool
 well_formed f interval m d w = lists_fit m d w && (numbers_fit interval m d w && parts_fit f d w)
+
+-- the parts fit together
+abbrev pub fitting : Parts → Bool
+fitting p = well_formed p.frequency p.interval p.months p.month_days p.weekdays

@@ -1,6 +1,10 @@
 // The parts of a rule.
+ghost use Rattle.std.specs.Prelude.{◌≡◌, None};
+ghost use Rattle.days.specs.declared.weekday.Weekday.TheVariants.{Monday};
+
 use calendar::MonthCode;
 use days::weekday::Weekday;
+use short_lists::{Blank, ShortList};
 
 // FREQ.
 #[derive(Clone, Copy)]
@@ -26,6 +30,16 @@ pub enum Position {
     FromEnd(u8),
 }
 
+impl Blank for Position {
+    ghost use Rattle.rules.specs.declared.parts.Position.TheVariants.{FromStart};
+
+    ghost blank = { FromStart 0 };
+
+    fn blank() -> Position {
+        Position::FromStart(0)
+    }
+}
+
 // A weekday, and which one of a stretch of days: MO is every Monday, 2MO the second, -1MO the last.
 #[derive(Clone, Copy)]
 pub struct ByDay {
@@ -33,23 +47,34 @@ pub struct ByDay {
     pub position: Option<Position>,
 }
 
-// BYMONTH: the first `len` codes.
-#[derive(Clone, Copy)]
-pub struct Months {
-    pub at: [MonthCode; 16],
-    pub len: usize,
+impl Blank for ByDay {
+    ghost blank = { record { weekday = Monday; position = None } };
+
+    fn blank() -> ByDay {
+        ByDay {
+            weekday: Weekday::Monday,
+            position: None,
+        }
+    }
 }
 
-// BYMONTHDAY: the first `len` values.
-#[derive(Clone, Copy)]
-pub struct MonthDays {
-    pub at: [Position; 62],
-    pub len: usize,
-}
+// BYMONTH.
+pub type Months = ShortList<MonthCode, 16>;
 
-// BYDAY: the first `len` weekdays.
+// BYMONTHDAY.
+pub type MonthDays = ShortList<Position, 62>;
+
+// BYDAY.
+pub type Weekdays = ShortList<ByDay, 16>;
+
+// What an RRULE says, before any question about its parts is answered.
 #[derive(Clone, Copy)]
-pub struct Weekdays {
-    pub at: [ByDay; 16],
-    pub len: usize,
+pub struct Parts {
+    pub frequency: Frequency,
+    pub interval: u16,
+    pub week_start: Weekday,
+    pub skip: Skip,
+    pub months: Months,
+    pub month_days: MonthDays,
+    pub weekdays: Weekdays,
 }

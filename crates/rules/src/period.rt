@@ -9,7 +9,8 @@ pub enum Period {
     Day(u32),
 }
 
-// Days in a row.
+// Days in a row, of any sheet. That there are few is asked where they are walked: a type for it would be made and taken
+// apart at each step.
 #[derive(Clone, Copy)]
 pub struct Stretch {
     pub from: u32,

@@ -1,12 +1,9 @@
 // From period to period: where a search through a rule's periods begins, and which period comes next.
-ghost use Rattle.std.specs.Prelude.{◌≡◌, ◌+◌, ◌-◌, ◌*◌, ◌/◌, ◌<◌, ◌≤◌, true};
+ghost use Rattle.std.specs.Prelude.{◌≡◌, ◌+◌, ◌-◌, ◌*◌, ◌/◌, ◌<◌, true};
 ghost use Rattle.days.specs.Numbers.{in_range, remainder};
-ghost use Rattle.calendar.specs.Sheets.{Stands};
 ghost use Rattle.rules.specs.Meaning.{week_of};
-ghost use Rattle.rules.specs.Onward.{Reached, Steps, MonthsOn, YearBefore, the_date};
+ghost use Rattle.rules.specs.Onward.{Steps, MonthsOn, YearBefore};
 
-use crate::Rule;
-use crate::parts::Frequency;
 use crate::period::Period;
 use calendar::Calendar;
 use days::weekday::Weekday;
@@ -53,7 +50,7 @@ pub fn next_period<C: Calendar>(calendar: &C, period: Period, interval: u16) -> 
 }
 
 // The last of the numbers `from`, `from + step` and so on that is at most `to`, or `from` if none is.
-fn last_counted(from: u32, step: u32, to: u32) -> u32
+pub fn last_counted(from: u32, step: u32, to: u32) -> u32
     requires { 0 < step }
     ensures { result ≡ from + (to - from) / step * step }
 {
@@ -61,7 +58,7 @@ fn last_counted(from: u32, step: u32, to: u32) -> u32
 }
 
 // The first day of a day's week, where weeks begin on `week_start`.
-fn week_of(week_start: Weekday, day: u32) -> u32
+pub fn week_of(week_start: Weekday, day: u32) -> u32
     requires { in_range day ≡ true }
     ensures { result ≡ week_of (remainder week_start) day }
 {
@@ -69,38 +66,10 @@ fn week_of(week_start: Weekday, day: u32) -> u32
 }
 
 // The last year counted from `year` on that begins before the day `low`, or `year` if none does.
-fn first_year<C: Calendar>(calendar: &C, year: u32, interval: u32, low: u32) -> u32
+pub fn first_year<C: Calendar>(calendar: &C, year: u32, interval: u32, low: u32) -> u32
     requires { (0 < interval) × (0 < low) }
     ensures { YearBefore (C.Sheets.meaning calendar.now) year interval low result }
 {
-    match calendar.date(low - 1) {
-        Some((last, _, _)) => last_counted(year, interval, last),
-        None => year,
-    }
-}
-
-// A period at which a search for days from `low` on may begin, since none before it gives one. Months are not counted
-// without a walk through the years, so there it is DTSTART's own.
-pub fn first_period<C: Calendar>(
-    calendar: &C,
-    rule: &Rule,
-    start: u32,
-    date: (u32, u8, u8),
-    low: u32,
-) -> Period
-    requires ranged { in_range start ≡ true }
-    requires dated { Stands (C.Sheets.meaning calendar.now) start date.0 date.1 date.2 }
-    requires late { start ≤ low }
-    ensures { Reached (C.Sheets.meaning calendar.now) rule.now start (the_date date) low result }
-{
-    let interval = u32::from(rule.interval);
-    match rule.frequency {
-        Frequency::Yearly => Period::Year(first_year(calendar, date.0, interval, low)),
-        Frequency::Monthly => Period::Month(date.0, date.1),
-        Frequency::Weekly => {
-            let week = week_of(rule.week_start, start);
-            Period::Week(last_counted(week, 7 * interval, low))
-        }
-        Frequency::Daily => Period::Day(last_counted(start, interval, low)),
-    }
+    let before = calendar.date(low - 1);
+    before.map_or(year, |(last, _, _)| last_counted(year, interval, last))
 }

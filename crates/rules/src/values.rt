@@ -34,12 +34,8 @@ pub fn value_day(skip: Skip, month: Stretch, value: Position) -> Option<u32>
             }
         }
         Position::FromEnd(v) => {
-            let v = u32::from(v);
-            if v <= month.size {
-                Some(month.from + month.size - v)
-            } else {
-                None
-            }
+            let before = month.size.checked_sub(u32::from(v))?;
+            Some(month.from + before)
         }
     }
 }

@@ -1,89 +1,72 @@
 // The days of weeks, and single days, into a queue.
-ghost use Rattle.std.specs.Prelude.{◌≡◌, ◌+◌, ◌%◌, ◌<◌, ◌≤◌, ◌&&◌, ◌||◌, length, if◌then◌else◌, ◌==◌, nat_lt};
-ghost use Rattle.queue.specs.Heap.{Heaped};
+ghost use Rattle.std.specs.Prelude.{◌≡◌, ◌+◌, ◌%◌, ◌<◌, ◌≤◌, ◌&&◌, ◌||◌, length, if◌then◌else◌, ◌==◌};
 ghost use Rattle.calendar.specs.Sheets.{code_at};
 ghost use Rattle.rules.specs.Parts.{no_items};
 ghost use Rattle.rules.specs.Meaning.{by_month, by_day, month_at, weekday_passes, code_passes, value_passes, date_of, date_passes, week_gives, day_gives};
 ghost use Rattle.rules.specs.Found.{Adds};
 
 use crate::Rule;
-use crate::codes::code_here;
 use crate::filling::add_if;
 use crate::limits::{code_passes, value_passes, weekday_passes};
-use calendar::{Calendar, Sheet};
-
-// The length of the month at a place.
-fn month_length(sheet: &Sheet, place: u8) -> u8
-    requires { (sheet.now.months ≤ 13) × ((1 ≤ place) × (place ≤ sheet.now.months)) }
-    ensures { result ≡ (month_at sheet.now place).size }
-{
-    sheet.lengths[place as usize - 1]
-}
+use crate::month::{MonthOf, YearOf};
+use crate::search::Search;
+use calendar::Calendar;
+use days::weekday::Weekday;
+use queue::Queue;
 
 // Whether BYMONTH and BYMONTHDAY let the day of a month pass.
-fn passes_in(rule: &Rule, sheet: &Sheet, place: u8, date: u8) -> bool
-    requires { (sheet.now.months ≤ 13) × ((1 ≤ place) × (place ≤ sheet.now.months)) }
-    ensures { result ≡ (code_passes rule.now (code_at sheet.now place) && value_passes rule.now date (month_at sheet.now place).size) }
+fn passes_in(rule: &Rule, month: &MonthOf, date: u8) -> bool
+    ensures { result ≡ (code_passes rule.now (code_at month.now.year.sheet.now month.now.place) && value_passes rule.now date (month_at month.now.year.sheet.now month.now.place).size) }
 {
-    code_passes(rule, code_here(sheet, place))
-        && value_passes(rule, date, month_length(sheet, place))
+    code_passes(rule, month.code()) && value_passes(rule, date, month.length())
 }
 
-// Whether BYMONTH and BYMONTHDAY let a day pass, by its own date.
-fn date_passes<C: Calendar>(calendar: &C, rule: &Rule, day: u32) -> bool
-    ensures { result ≡ date_passes (C.Sheets.meaning calendar.now) rule.now (date_of (C.Sheets.meaning calendar.now) day) }
-{
-    match calendar.date(day) {
-        Some((year, place, date)) => passes_in(rule, &calendar.sheet(year), place, date),
-        None => false,
+impl<'a, C: Calendar> Search<'a, C> {
+    // Whether BYMONTH and BYMONTHDAY let a day pass, by its own date.
+    fn date_passes(&self, day: u32) -> bool
+        ensures { result ≡ date_passes (C.Sheets.meaning self.now.calendar.now) self.now.rule.now (date_of (C.Sheets.meaning self.now.calendar.now) day) }
+    {
+        // In a closure for `is_some_and` it would not be known that the month stands in the year.
+        match self.calendar.date(day) {
+            Some((year, place, date)) => {
+                let year = YearOf {
+                    sheet: &self.calendar.sheet(year),
+                };
+                passes_in(self.rule, &MonthOf { year, place }, date)
+            }
+            None => false,
+        }
     }
-}
 
-// Whether a day of a week that counts is one of the rule's.
-fn week_keeps<C: Calendar>(calendar: &C, rule: &Rule, start: u32, day: u32) -> bool
-    ensures { result ≡ ((if no_items (by_day rule.now) then (day % 7 == start % 7) else weekday_passes rule.now day) && (no_items (by_month rule.now) || date_passes (C.Sheets.meaning calendar.now) rule.now (date_of (C.Sheets.meaning calendar.now) day))) }
-{
-    let falls = if rule.has_weekdays() {
-        weekday_passes(rule, day)
-    } else {
-        day % 7 == start % 7
-    };
-    falls && (!rule.has_months() || date_passes(calendar, rule, day))
-}
-
-// Adds what the rule gives in the week that begins on `first`.
-pub fn add_week<C: Calendar>(
-    calendar: &C,
-    slots: &mut [u32],
-    used: usize,
-    rule: &Rule,
-    start: u32,
-    first: u32,
-) -> usize
-    requires room { used + 7 ≤ length slots.old }
-    requires heaped { Heaped nat_lt slots.old used }
-    requires first { first ≤ 804000 }
-    ensures { Adds slots.old slots.new used result 7 (week_gives (C.Sheets.meaning calendar.now) rule.now start first) }
-{
-    let mut held = used;
-    for day in first..first + 7 {
-        held = add_if(slots, held, day, week_keeps(calendar, rule, start, day));
+    // Whether a day of a week that counts is one of the rule's.
+    fn week_keeps(&self, day: u32) -> bool
+        ensures { result ≡ ((if no_items (by_day self.now.rule.now) then (day % 7 == self.now.start % 7) else weekday_passes self.now.rule.now day) && (no_items (by_month self.now.rule.now) || date_passes (C.Sheets.meaning self.now.calendar.now) self.now.rule.now (date_of (C.Sheets.meaning self.now.calendar.now) day))) }
+    {
+        let falls = if self.rule.has_weekdays() {
+            weekday_passes(self.rule, day)
+        } else {
+            Weekday::of(day) == Weekday::of(self.start)
+        };
+        falls && (!self.rule.has_months() || self.date_passes(day))
     }
-    held
-}
 
-// Adds a day that counts, if it is one of the rule's.
-pub fn add_day<C: Calendar>(
-    calendar: &C,
-    slots: &mut [u32],
-    used: usize,
-    rule: &Rule,
-    day: u32,
-) -> usize
-    requires room { used < length slots.old }
-    requires heaped { Heaped nat_lt slots.old used }
-    ensures { Adds slots.old slots.new used result 1 (day_gives (C.Sheets.meaning calendar.now) rule.now day) }
-{
-    let keep = weekday_passes(rule, day) && date_passes(calendar, rule, day);
-    add_if(slots, used, day, keep)
+    // Adds what the rule gives in the week that begins on `first`.
+    pub fn add_week(&self, queue: &mut Queue<u32>, first: u32)
+        requires room { length queue.old.entries + 7 ≤ queue.old.places }
+        requires first { first ≤ 804000 }
+        ensures { Adds queue.old queue.new 7 (week_gives (C.Sheets.meaning self.now.calendar.now) self.now.rule.now self.now.start first) }
+    {
+        for day in first..first + 7 {
+            add_if(queue, day, self.week_keeps(day));
+        }
+    }
+
+    // Adds a day that counts, if it is one of the rule's.
+    pub fn add_day(&self, queue: &mut Queue<u32>, day: u32)
+        requires room { length queue.old.entries < queue.old.places }
+        ensures { Adds queue.old queue.new 1 (day_gives (C.Sheets.meaning self.now.calendar.now) self.now.rule.now day) }
+    {
+        let keep = weekday_passes(self.rule, day) && self.date_passes(day);
+        add_if(queue, day, keep);
+    }
 }

@@ -1,10 +1,10 @@
 -- Days with their dates, and rules with their days, worked out by hand elsewhere: one statement over a list, of the
 -- definitions of the calendars and of rules.
-use Rattle.std.specs.Prelude.{◌≡◌, ℕ, zero, suc, ◌+◌, ◌-◌, Bool, true, false, List, [], ◌∷◌, length, replicate, Some, None, Option, refl}
+use Rattle.std.specs.Prelude.{◌≡◌, ℕ, zero, suc, ◌+◌, ◌-◌, Bool, true, false, List, [], ◌∷◌, length, Some, None, Option, refl}
 use Rattle.days.specs.declared.weekday.Weekday.TheVariants.{Monday}
 use Rattle.calendar.specs.declared.sheet.MonthCode.{MonthCode}
 use Rattle.calendar.specs.declared.dates.NamedDate.{NamedDate}
-use Rattle.calendar.specs.Sheets.{Almanac, no_code}
+use Rattle.calendar.specs.Sheets.{Almanac, plain_code, leap_code}
 use Rattle.calendar.specs.Dates.{Named}
 use Rattle.calendars.specs.Gregorian.{gregorian}
 use Rattle.calendars.specs.Islamic.{islamic_civil}
@@ -13,7 +13,6 @@ use Rattle.rules.specs.declared.parts.Frequency.{Frequency}
 use Rattle.rules.specs.declared.parts.Frequency.TheVariants.{Yearly, Monthly}
 use Rattle.rules.specs.declared.parts.Skip.{Skip}
 use Rattle.rules.specs.declared.parts.Skip.TheVariants.{Omit, Backward, Forward}
-use Rattle.rules.specs.declared.parts.Position.TheVariants.{FromStart}
 use Rattle.rules.specs.declared.checked.Rule.{Rule}
 use Rattle.rules.specs.Meaning.{first_from, gives}
 
@@ -40,12 +39,6 @@ abbrev pub AllHold : List Worked → Type 0
 AllHold [] = Unit {0}
 AllHold (w ∷ ws) = Holds w × AllHold ws
 
-abbrev pub plain : ℕ → MonthCode
-plain n = record { number = n; leap = false }
-
-abbrev pub leap : ℕ → MonthCode
-leap n = record { number = n; leap = true }
-
 abbrev pub on : ℕ → MonthCode → ℕ → NamedDate
 on y c d = record { year = y; code = c; day = d }
 
@@ -53,24 +46,26 @@ on y c d = record { year = y; code = c; day = d }
 abbrev pub bare : Frequency → Skip → Rule
 bare f k =
     record {
-      frequency = f;
-      interval = 1;
-      week_start = Monday;
-      skip = k;
-      months = record { at = replicate 16 no_code; len = 0 };
-      month_days = record { at = replicate 62 (FromStart 0); len = 0 };
-      weekdays = record { at = replicate 16 (record { weekday = Monday; position = None }); len = 0 };
+      parts = record {
+        frequency = f;
+        interval = 1;
+        week_start = Monday;
+        skip = k;
+        months = [];
+        month_days = [];
+        weekdays = [];
+      };
       checked = refl;
     }
 
 abbrev pub worked_dates : List Worked
 worked_dates =
     -- 2012-02-29
-    date gregorian (on 2012 (plain 2) 29) 734562
+    date gregorian (on 2012 (plain_code 2) 29) 734562
     -- 8 Adar I 5774, which fell on 2014-02-08
-    ∷ date hebrew (on 5774 (leap 5) 8) 735272
+    ∷ date hebrew (on 5774 (leap_code 5) 8) 735272
     -- the new year of 1445
-    ∷ date islamic_civil (on 1445 (plain 1) 1) 738720
+    ∷ date islamic_civil (on 1445 (plain_code 1) 1) 738720
     -- 2012-02-29 yearly: 2013-03-01 stands in for the day that 2013 lacks, or 2016-02-29 is next
     ∷ days gregorian (bare Yearly Forward) 734562 (734562 ∷ 734928 ∷ [])
     ∷ days gregorian (bare Yearly Omit) 734562 (734562 ∷ 736023 ∷ [])

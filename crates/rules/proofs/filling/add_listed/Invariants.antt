@@ -6,5 +6,5 @@ use Rattle.rules.proofs.filling.add_listed.Given as goal
 
 abbrev pub invariant-loop-value : goal.invariant-loop-value
 invariant-loop-value l =
-    Adds l.initial.slots l.slots l.used l.held l.value-index
-    (λ n. weekday_passes l.rule n && some_of (value_gives l.rule.skip l.month n) (take l.value-index l.list))
+    Adds l.initial.queue l.queue l.value-index
+    (λ n. weekday_passes l.rule n && some_of (value_gives l.rule.parts.skip l.month n) (take l.value-index l.list))

@@ -15,7 +15,7 @@ pub loop-day-init : goal.loop-day-init
 loop-day-init c =
     let m = c.args.stretch in
     let r = c.args.rule.now in
-    adds_none c.args.slots.now c.args.used (m.from - m.from) _ c.requires.heaped
+    adds_none c.args.queue.now (m.from - m.from) _
     (λ n.
     ⊎_elim
     (λ (t : weekdays_give r m n ≡ true).
@@ -24,10 +24,8 @@ loop-day-init c =
     (λ (t : weekdays_give r m n ≡ false). and_right (ltb n m.from) (weekdays_give r m n) t)
     (cases_Bool (weekdays_give r m n)))
 
-pub add_if-held-requires : goal.add_if-held-requires
-add_if-held-requires c =
-    let few = c.loop-day.invariant.few in
-    record { room = omega arith; heaped = c.loop-day.invariant.heaped }
+pub add_if-requires : goal.add_if-requires
+add_if-requires c = omega (arith, c.loop-day.invariant.few, c.loop-day.invariant.places)
 
 pub loop-day-preserved : goal.loop-day-preserved
 loop-day-preserved c =
@@ -35,10 +33,10 @@ loop-day-preserved c =
     let r = c.args.rule.now in
     let d = c.loop-day.day in
     let low = c.loop-day.auto.day in
-    adds_same _ _ _ _ (d - m.from + 1) (d + 1 - m.from) _ _ (omega arith)
+    adds_same _ _ (d - m.from + 1) (d + 1 - m.from) _ _ (omega arith)
     (λ n.
     ap (λ (b : Bool). (ltb n d && weekdays_give r m n) || (b && eqb n d)) c.weekdays_give.ensures ∙ below_next (weekdays_give r m) n d)
-    (adds_both _ _ _ _ _ _ (d - m.from) 1 _ _ c.loop-day.invariant c.add_if-held.ensures)
+    (adds_both _ _ _ (d - m.from) 1 _ _ c.loop-day.invariant c.add_if.ensures)
 
 pub returns : goal.returns
 returns c =
@@ -46,7 +44,7 @@ returns c =
     let r = c.args.rule.now in
     let d = c.loop-day.day in
     let high = c.loop-day.auto.day-end in
-    adds_same _ _ _ _ (d - m.from) m.size _ _ (omega arith)
+    adds_same _ _ (d - m.from) m.size _ _ (omega arith)
     (λ n.
     limit_shown (ltb n d) (weekdays_give r m n)
     (λ t.

@@ -5,4 +5,4 @@ use Rattle.rules.proofs.filling.add_weekdays.Given as goal
 
 abbrev pub invariant-loop-day : goal.invariant-loop-day
 invariant-loop-day l =
-    Adds l.initial.slots l.slots l.used l.held (l.day - l.stretch.from) (λ n. ltb n l.day && weekdays_give l.rule l.stretch n)
+    Adds l.initial.queue l.queue (l.day - l.stretch.from) (λ n. ltb n l.day && weekdays_give l.rule l.stretch n)

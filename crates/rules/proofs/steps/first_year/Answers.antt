@@ -1,9 +1,11 @@
-use Rattle.std.proofs.Common.{refl}
-use Rattle.calendar.proofs.Years.{stands_within}
-use Rattle.rules.proofs.Stepping.{year_before}
+use Rattle.std.proofs.Common.{◌≡◌, ◌+◌, ◌-◌, ◌*◌, ◌/◌, rules, MatchOption}
+use Rattle.rules.proofs.Stepping.{year_from}
 use Rattle.rules.proofs.steps.first_year.Goals as goal
 
-pub returns-in-Some : goal.returns-in-Some
-returns-in-Some g c =
-    let w = stands_within _ _ _ _ _ (c.in-Some.ensures.stands _ _ _ refl) in
-    year_before _ (g.met.C.Sheets.lawful c.args.calendar.now) _ _ _ _ _ c.requires.0 c.requires.1 w c.last_counted.ensures
+pub returns : goal.returns
+returns g c =
+    let y = c.args.year in
+    let n = c.args.interval in
+    let r = c.map_or.result in
+    let last : MatchOption c.date-before.result (r ≡ y) (λ t. r ≡ y + (t.0 - y) / n * n) = search rules in
+    year_from _ (g.met.C.Sheets.lawful c.args.calendar.now) y n c.args.low c.date-before.result r c.requires.0 c.requires.1 c.date-before.ensures last

@@ -1,2 +1,0 @@
-pub mod Every
-pub mod Given
