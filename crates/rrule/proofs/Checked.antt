@@ -1,16 +1,17 @@
 -- What is read is within its bounds, and what passes the questions is a rule.
-use Rattle.std.proofs.Common.{◌≡◌, ℕ, Bool, true, false, not, ◌&&◌, ◌||◌, leb, List, [], is_some, Some, None, codes, Option, sym, refl, ap, ◌∙◌, subst, arith}
+use Rattle.std.proofs.Common.{◌≡◌, ℕ, Bool, true, false, not, ◌&&◌, ◌||◌, leb, List, [], length, is_some, Some, None, codes, Option, sym, refl, ap, ◌∙◌, subst, arith}
+use Rattle.std.specs.Option.{unwrap_or}
 use Rattle.std.proofs.lemmas.Bool.{and_from, and_parts}
-use Rattle.rules.specs.Parts.{each_of, code_ok, position_ok, number_ok, codes_in, values_in, weekdays_in, some_of, numbered, takes_numbers, takes_month_days, no_items, lists_fit, numbers_fit}
-use Rattle.rule_parts.specs.Making.{fitting}
+use Rattle.rules.specs.Parts.{each_of, code_ok, position_ok, number_ok, some_of, numbered, takes_numbers, takes_month_days, no_items, lists_fit, numbers_fit}
+use Rattle.rules.specs.Parts.{fitting}
 use Rattle.rules.specs.declared.parts.Frequency.{Frequency}
-use Rattle.rules.specs.declared.parts.MonthDays.{MonthDays}
-use Rattle.rules.specs.declared.parts.Weekdays.{Weekdays}
+use Rattle.rules.specs.declared.parts.ByDay.{ByDay}
+use Rattle.rules.specs.declared.parts.Position.{Position}
 use Rattle.rule_values.specs.declared.values.Number.{Number}
-use Rattle.rule_values.specs.Values.{bounded_read, months_with, month_days_with, weekdays_with, months_read, month_days_read, weekdays_read}
+use Rattle.rule_values.specs.Values.{bounded_read, months_read, month_days_read, weekdays_read}
 use Rattle.rule_values.proofs.Bounded.{IfRead, bounded_within, months_fit, month_days_fit, weekdays_fit}
 use Rattle.rrule.specs.Named.{said, value_of}
-use Rattle.rrule.specs.Rule.{or_else, parts_said, the_interval, the_months, the_month_days, the_weekdays, values_of}
+use Rattle.rrule.specs.Rule.{parts_said, the_interval, the_months, the_month_days, the_weekdays, values_of}
 use Rattle.rrule.specs.Questions.{month_days_allowed, numbers_allowed, by_frequency}
 use Rattle.rrule.specs.declared.values.Values.{Values}
 
@@ -23,25 +24,25 @@ said_by : {A : Type 0} (P : A → Type 0) (read : List ℕ → Option A) → ((b
 said_by P read each None = tt
 said_by P read each (Some v) = each v
 
-or_else_by : {A : Type 0} (P : A → Type 0) (d : A) (o : Option A) → P d → IfRead P o → P (or_else d o)
-or_else_by P d None h k = h
-or_else_by P d (Some x) h k = k
+unwrap_or_by : {A : Type 0} (P : A → Type 0) (d : A) (o : Option A) → P d → IfRead P o → P (unwrap_or o d)
+unwrap_or_by P d None h k = h
+unwrap_or_by P d (Some x) h k = k
 
 interval_within : (o : Option (Number 999)) → IfRead (λ n. (leb 1 n.value && leb n.value 999) ≡ true) o → (leb 1 (the_interval o) && leb (the_interval o) 999) ≡ true
 interval_within None k = refl
 interval_within (Some n) k = k
 
-months_within : (o : Option (List ℕ)) → (leb (or_else (months_with []) (said months_read o)).len 16 ≡ true) × (each_of code_ok (codes_in (or_else (months_with []) (said months_read o))) ≡ true)
+months_within : (o : Option (List ℕ)) → (leb (length (unwrap_or (said months_read o) [])) 16 ≡ true) × (each_of code_ok (unwrap_or (said months_read o) []) ≡ true)
 months_within o =
-    or_else_by (λ m. (leb m.len 16 ≡ true) × (each_of code_ok (codes_in m) ≡ true)) (months_with []) (said months_read o) (refl, refl) (said_by _ months_read months_fit o)
+    unwrap_or_by (λ m. (leb (length m) 16 ≡ true) × (each_of code_ok m ≡ true)) [] (said months_read o) (refl, refl) (said_by _ months_read months_fit o)
 
-month_days_within : (o : Option (List ℕ)) → (leb (or_else (month_days_with []) (said month_days_read o)).len 62 ≡ true) × (each_of (position_ok 31) (values_in (or_else (month_days_with []) (said month_days_read o))) ≡ true)
+month_days_within : (o : Option (List ℕ)) → (leb (length (unwrap_or (said month_days_read o) [])) 62 ≡ true) × (each_of (position_ok 31) (unwrap_or (said month_days_read o) []) ≡ true)
 month_days_within o =
-    or_else_by (λ d. (leb d.len 62 ≡ true) × (each_of (position_ok 31) (values_in d) ≡ true)) (month_days_with []) (said month_days_read o) (refl, refl) (said_by _ month_days_read month_days_fit o)
+    unwrap_or_by (λ d. (leb (length d) 62 ≡ true) × (each_of (position_ok 31) d ≡ true)) [] (said month_days_read o) (refl, refl) (said_by _ month_days_read month_days_fit o)
 
-weekdays_within : (o : Option (List ℕ)) → (leb (or_else (weekdays_with []) (said weekdays_read o)).len 16 ≡ true) × (each_of (λ b. number_ok b.position) (weekdays_in (or_else (weekdays_with []) (said weekdays_read o))) ≡ true)
+weekdays_within : (o : Option (List ℕ)) → (leb (length (unwrap_or (said weekdays_read o) [])) 16 ≡ true) × (each_of (λ b. number_ok b.position) (unwrap_or (said weekdays_read o) []) ≡ true)
 weekdays_within o =
-    or_else_by (λ w. (leb w.len 16 ≡ true) × (each_of (λ b. number_ok b.position) (weekdays_in w) ≡ true)) (weekdays_with []) (said weekdays_read o) (refl, refl) (said_by _ weekdays_read weekdays_fit o)
+    unwrap_or_by (λ w. (leb (length w) 16 ≡ true) × (each_of (λ b. number_ok b.position) w ≡ true)) [] (said weekdays_read o) (refl, refl) (said_by _ weekdays_read weekdays_fit o)
 
 pub values_bounded : (ps : List (List ℕ)) → bounded (values_of ps) ≡ true
 values_bounded ps =
@@ -57,10 +58,10 @@ allowed : (none takes plain numbers : Bool) → takes ≡ true → (plain || (nu
 allowed none takes plain numbers h k = grind arith
 
 -- no BYMONTHDAY has no values
-parts_fit_by : (f : Frequency) (o : Option MonthDays) (w : Weekdays) → (not (is_some o) || takes_month_days f) ≡ true → (not (some_of (λ b. numbered b.position) (weekdays_in w)) || (takes_numbers f && not (is_some o))) ≡ true → ((no_items (values_in (or_else (month_days_with []) o)) || takes_month_days f) && (not (some_of (λ b. numbered b.position) (weekdays_in w)) || (takes_numbers f && no_items (values_in (or_else (month_days_with []) o))))) ≡ true
+parts_fit_by : (f : Frequency) (o : Option (List Position)) (w : List ByDay) → (not (is_some o) || takes_month_days f) ≡ true → (not (some_of (λ b. numbered b.position) w) || (takes_numbers f && not (is_some o))) ≡ true → ((no_items (unwrap_or o []) || takes_month_days f) && (not (some_of (λ b. numbered b.position) w) || (takes_numbers f && no_items (unwrap_or o [])))) ≡ true
 parts_fit_by f None w h k = and_from _ _ refl k
 parts_fit_by f (Some d) w h k =
-    allowed (no_items (values_in d)) (takes_month_days f) (not (some_of (λ b. numbered b.position) (weekdays_in w))) (takes_numbers f) h k
+    allowed (no_items d) (takes_month_days f) (not (some_of (λ b. numbered b.position) w)) (takes_numbers f) h k
 
 pub well_formed_by : (f : Frequency) (v : Values) (ps : List (List ℕ)) → v ≡ values_of ps → v.frequency ≡ Some f → true ≡ month_days_allowed v → true ≡ numbers_allowed v → fitting (parts_said f v) ≡ true
 well_formed_by f v ps is e h k =
@@ -68,7 +69,4 @@ well_formed_by f v ps is e h k =
     and_from _ _ p.0 (and_from _ _ p.1
     (parts_fit_by f v.month_days (the_weekdays v)
     (subst (λ o. (not (is_some v.month_days) || by_frequency takes_month_days o) ≡ true) e (sym h))
-    (subst (λ o. (not (some_of (λ b. numbered b.position) (weekdays_in (the_weekdays v))) || (by_frequency takes_numbers o && not (is_some v.month_days))) ≡ true) e (sym k))))
-
-pub few_weekdays : (v : Values) (ps : List (List ℕ)) → v ≡ values_of ps → leb (the_weekdays v).len 16 ≡ true
-few_weekdays v ps is = ap (λ u. leb (the_weekdays u).len 16) is ∙ (weekdays_within (value_of (codes "BYDAY") ps)).0
+    (subst (λ o. (not (some_of (λ b. numbered b.position) (the_weekdays v)) || (by_frequency takes_numbers o && not (is_some v.month_days))) ≡ true) e (sym k))))

@@ -1,1 +1,3 @@
+pub mod Twice
+pub mod Valued
 pub mod Checked

@@ -1,6 +1,9 @@
 -- The parts of a rule, between semicolons: each a name and a value around its first `=`. Letter case is ignored.
 use Rattle.std.specs.Prelude.{ℕ, Bool, true, cond, not, ◌&&◌, List, [], ◌∷◌, is_some, Some, None, codes, Option}
 use Rattle.rules.specs.Parts.{some_of, each_of}
+use Rattle.rule_values.specs.Words.{word_read}
+use Rattle.rrule.specs.declared.part_name.PartName.{PartName}
+use Rattle.rrule.specs.declared.part_name.PartName.TheVariants.{Frequency, Interval, Count, Until, WeekStart, Scale, Skip, Months, MonthDays, Weekdays}
 use Rattle.text.specs.Letters.{same}
 use Rattle.text.specs.Pieces.{up_to, past, has, pieces}
 
@@ -14,13 +17,24 @@ name part = up_to 61 part
 abbrev pub value : List ℕ → List ℕ
 value part = past 61 part
 
-abbrev pub known_names : List (List ℕ)
-known_names =
-    codes "FREQ" ∷ codes "INTERVAL" ∷ codes "COUNT" ∷ codes "UNTIL" ∷ codes "WKST" ∷
-    codes "RSCALE" ∷ codes "SKIP" ∷ codes "BYMONTH" ∷ codes "BYMONTHDAY" ∷ codes "BYDAY" ∷ []
+-- how the name of a part is written
+abbrev pub part_word : PartName → List ℕ
+part_word Frequency = codes "FREQ"
+part_word Interval = codes "INTERVAL"
+part_word Count = codes "COUNT"
+part_word Until = codes "UNTIL"
+part_word WeekStart = codes "WKST"
+part_word Scale = codes "RSCALE"
+part_word Skip = codes "SKIP"
+part_word Months = codes "BYMONTH"
+part_word MonthDays = codes "BYMONTHDAY"
+part_word Weekdays = codes "BYDAY"
+
+abbrev pub part_names : List PartName
+part_names = Frequency ∷ Interval ∷ Count ∷ Until ∷ WeekStart ∷ Scale ∷ Skip ∷ Months ∷ MonthDays ∷ Weekdays ∷ []
 
 abbrev pub is_known : List ℕ → Bool
-is_known n = some_of (λ known. same known n) known_names
+is_known n = is_some (word_read part_word part_names n)
 
 abbrev pub well_named : List ℕ → Bool
 well_named part = has 61 part && is_known (name part)

@@ -1,6 +1,6 @@
 -- The questions asked of a rule in their order, and what its text says: the fault of the first that fails, or every field of the rule.
 use Rattle.std.specs.Prelude.{ℕ, Bool, false, cond, not, ◌&&◌, ◌||◌, List, [], ◌∷◌, is_some, Some, None, Ok, Err, Option, Result}
-use Rattle.rules.specs.Parts.{some_of, numbered, takes_numbers, takes_month_days, weekdays_in}
+use Rattle.rules.specs.Parts.{some_of, numbered, takes_numbers, takes_month_days}
 use Rattle.rules.specs.declared.parts.Frequency.{Frequency}
 use Rattle.rrule.specs.declared.fault.RuleFault.{RuleFault}
 use Rattle.rrule.specs.declared.fault.RuleFault.TheVariants.{NotParts, BadValue, NoFrequency, CountAndUntil, SkipWithoutScale, MonthDaysInWeeks, NumberedWeekdays}
@@ -27,7 +27,7 @@ month_days_allowed v = not (is_some v.month_days) || by_frequency takes_month_da
 
 abbrev pub numbers_allowed : Values → Bool
 numbers_allowed v =
-    not (some_of (λ d. numbered d.position) (weekdays_in (the_weekdays v)))
+    not (some_of (λ d. numbered d.position) (the_weekdays v))
     || (by_frequency takes_numbers v.frequency && not (is_some v.month_days))
 
 pub record Question : Type 0 where

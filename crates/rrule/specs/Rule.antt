@@ -1,13 +1,14 @@
 -- What the parts of a rule say together: every field of the rule.
 use Rattle.std.specs.Prelude.{ℕ, Bool, ◌&&◌, List, [], Some, None, codes, Option}
+use Rattle.std.specs.Option.{unwrap_or}
+use Rattle.calendar.specs.declared.sheet.MonthCode.{MonthCode}
 use Rattle.days.specs.declared.weekday.Weekday.TheVariants.{Monday}
 use Rattle.rules.specs.declared.parts.Frequency.{Frequency}
 use Rattle.rules.specs.declared.parts.Frequency.TheVariants.{Yearly}
-use Rattle.rules.specs.declared.parts.MonthDays.{MonthDays}
-use Rattle.rules.specs.declared.parts.Months.{Months}
+use Rattle.rules.specs.declared.parts.ByDay.{ByDay}
+use Rattle.rules.specs.declared.parts.Position.{Position}
 use Rattle.rules.specs.declared.parts.Skip.TheVariants.{Omit}
-use Rattle.rules.specs.declared.parts.Weekdays.{Weekdays}
-use Rattle.rule_parts.specs.declared.parts.Parts.{Parts}
+use Rattle.rules.specs.declared.parts.Parts.{Parts}
 use Rattle.rule_values.specs.declared.values.LastDay.{LastDay}
 use Rattle.rule_values.specs.declared.values.Number.{Number}
 use Rattle.rule_values.specs.declared.values.ScaleName.{ScaleName}
@@ -15,7 +16,7 @@ use Rattle.sources.specs.declared.events.Limit.{Limit}
 use Rattle.sources.specs.declared.events.Limit.TheVariants.{Endless, Until, Count}
 use Rattle.rrule.specs.declared.values.Values.{Values}
 use Rattle.rrule.specs.Named.{value_of, said, in_form}
-use Rattle.rule_values.specs.Values.{bounded_read, until_read, scale_read, months_with, month_days_with, weekdays_with, months_read, month_days_read, weekdays_read}
+use Rattle.rule_values.specs.Values.{bounded_read, until_read, scale_read, months_read, month_days_read, weekdays_read}
 use Rattle.rule_values.specs.Words.{frequency_read, skip_read, weekday_read}
 
 -- what the parts say, each if it is there
@@ -49,22 +50,18 @@ well_valued ps =
     && in_form weekdays_read (value_of (codes "BYDAY") ps)))))))))
 
 -- what a part says, or else what stands for it
-abbrev pub or_else : {A : Type 0} → A → Option A → A
-or_else d None = d
-or_else d (Some x) = x
-
 abbrev pub the_interval : Option (Number 999) → ℕ
 the_interval None = 1
 the_interval (Some n) = n.value
 
-abbrev pub the_months : Values → Months
-the_months v = or_else (months_with []) v.months
+abbrev pub the_months : Values → List MonthCode
+the_months v = unwrap_or v.months []
 
-abbrev pub the_month_days : Values → MonthDays
-the_month_days v = or_else (month_days_with []) v.month_days
+abbrev pub the_month_days : Values → List Position
+the_month_days v = unwrap_or v.month_days []
 
-abbrev pub the_weekdays : Values → Weekdays
-the_weekdays v = or_else (weekdays_with []) v.weekdays
+abbrev pub the_weekdays : Values → List ByDay
+the_weekdays v = unwrap_or v.weekdays []
 
 abbrev pub the_limit : Option (Number 9999) → Option LastDay → Limit
 the_limit (Some n) last = Count n.value
@@ -83,12 +80,12 @@ parts_said f v =
     record {
       frequency = f;
       interval = the_interval v.interval;
-      week_start = or_else Monday v.week_start;
-      skip = or_else Omit v.skip;
+      week_start = unwrap_or v.week_start Monday;
+      skip = unwrap_or v.skip Omit;
       months = the_months v;
       month_days = the_month_days v;
       weekdays = the_weekdays v;
     }
 
 abbrev pub rule_of : Values → Said
-rule_of v = record { parts = parts_said (or_else Yearly v.frequency) v; limit = the_limit v.count v.until; scale = v.scale }
+rule_of v = record { parts = parts_said (unwrap_or v.frequency Yearly) v; limit = the_limit v.count v.until; scale = v.scale }

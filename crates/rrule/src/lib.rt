@@ -3,6 +3,7 @@
 
 mod fault;
 mod named;
+mod part_name;
 mod rule;
 mod values;
 

@@ -6,8 +6,8 @@ use rules::{Frequency, MonthDays, Months, Skip, Weekdays};
 mod all;
 mod defaults;
 
-pub use all::{read_values, well_valued};
-pub use defaults::{interval_or_one, limit, month_days_or_none, months_or_none, weekdays_or_none};
+pub use all::read_values;
+pub use defaults::{interval_or_one, limit};
 
 // What the parts of a rule say, each if it is there.
 #[derive(Clone, Copy)]

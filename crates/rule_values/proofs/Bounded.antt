@@ -1,17 +1,16 @@
 -- What is read is within its bounds.
-use Rattle.std.proofs.Common.{◌≡◌, ℕ, suc, ◌-◌, Bool, true, ◌&&◌, eqb, leb, List, [], ◌∷◌, length, take, replicate, Some, None, Option, refl, ap, ◌∙◌}
-use Rattle.std.proofs.lemmas.List.{take_at}
+use Rattle.std.proofs.Common.{◌≡◌, ℕ, suc, Bool, true, ◌&&◌, eqb, leb, List, [], ◌∷◌, length, Some, None, Option, refl, ap, ◌∙◌}
 use Rattle.std.proofs.lemmas.Bool.{and_from, cond_both}
 use Rattle.days.specs.declared.weekday.Weekday.{Weekday}
-use Rattle.rules.specs.Parts.{each_of, code_ok, position_ok, number_ok, codes_in, values_in, weekdays_in}
+use Rattle.rules.specs.Parts.{each_of, code_ok, position_ok, number_ok}
 use Rattle.rules.specs.declared.parts.Position.{Position}
 use Rattle.rules.specs.declared.parts.Position.TheVariants.{FromStart, FromEnd}
 use Rattle.text.specs.Pieces.{pieces}
 use Rattle.rule_values.specs.Numbers.{from_one, number_to, number_read, counted, position_read}
 use Rattle.rule_values.specs.Items.{ahead, lettered, leap_read, month_code, month_code_read, month_day_read, which_read, some_position, by_day, by_day_read}
 use Rattle.rule_values.specs.Words.{weekday_read}
-use Rattle.rule_values.specs.Lists.{in_front, all_read, list_read, filled}
-use Rattle.rule_values.specs.Values.{bounded_read, the_number, listed, months_with, month_days_with, weekdays_with, months_read, month_days_read, weekdays_read}
+use Rattle.rule_values.specs.Lists.{in_front, all_read, list_read}
+use Rattle.rule_values.specs.Values.{bounded_read, the_number, months_read, month_days_read, weekdays_read}
 
 -- what is read, if anything is
 abbrev pub IfRead : {A : Type 0} → (A → Type 0) → Option A → Type 0
@@ -92,32 +91,25 @@ all_long : {A : Type 0} (ok : A → Bool) (read : List ℕ → Option A) → ((t
 all_long ok read each [] = (refl, refl)
 all_long ok read each (t ∷ ts) = in_front_long ok (length ts) (read t) (all_read read ts) (each t) (all_long ok read each ts)
 
--- a list within its array: its length, and each of its items
-abbrev Fits : {A : Type 0} → (A → Bool) → ℕ → List A → ℕ → Type 0
-Fits ok n at len = (leb len n ≡ true) × (each_of ok (take len at) ≡ true)
+-- at most n items, each as it must be
+abbrev Fits : {A : Type 0} → (A → Bool) → ℕ → List A → Type 0
+Fits ok n xs = (leb (length xs) n ≡ true) × (each_of ok xs ≡ true)
 
-held_fits : {A : Type 0} (ok : A → Bool) (n : ℕ) (d : A) (xs : List A) → leb (length xs) n ≡ true → each_of ok xs ≡ true → Fits ok n (filled n d xs) (length xs)
-held_fits ok n d xs h k = (h, ap (each_of ok) (take_at xs (replicate (n - length xs) d) (length xs) refl) ∙ k)
+long_fits : {A : Type 0} (ok : A → Bool) (n m : ℕ) (o : Option (List A)) → leb m n ≡ true → IfRead (Long ok m) o → IfRead (Fits ok n) o
+long_fits ok n m None h k = tt
+long_fits ok n m (Some xs) h k = (ap (λ l. leb l n) k.0 ∙ h, k.1)
 
-long_fits : {A : Type 0} (ok : A → Bool) (n m : ℕ) (d : A) (o : Option (List A)) → leb m n ≡ true → IfRead (Long ok m) o → IfRead (λ xs. Fits ok n (filled n d xs) (length xs)) o
-long_fits ok n m d None h k = tt
-long_fits ok n m d (Some xs) h k = held_fits ok n d xs (ap (λ l. leb l n) k.0 ∙ h) k.1
-
-list_fits : {A : Type 0} (ok : A → Bool) (n : ℕ) (d : A) (read : List ℕ → Option A) → ((t : List ℕ) → IfRead (λ x. ok x ≡ true) (read t)) → (bs : List ℕ) → IfRead (λ xs. Fits ok n (filled n d xs) (length xs)) (list_read n read bs)
-list_fits ok n d read each bs =
-    cond_both (leb (length (pieces 44 bs)) n) _ _ (IfRead (λ xs. Fits ok n (filled n d xs) (length xs)))
-    (λ e. long_fits ok n (length (pieces 44 bs)) d (all_read read (pieces 44 bs)) e (all_long ok read each (pieces 44 bs)))
+list_fits : {A : Type 0} (ok : A → Bool) (n : ℕ) (read : List ℕ → Option A) → ((t : List ℕ) → IfRead (λ x. ok x ≡ true) (read t)) → (bs : List ℕ) → IfRead (Fits ok n) (list_read n read bs)
+list_fits ok n read each bs =
+    cond_both (leb (length (pieces 44 bs)) n) _ _ (IfRead (Fits ok n))
+    (λ e. long_fits ok n (length (pieces 44 bs)) (all_read read (pieces 44 bs)) e (all_long ok read each (pieces 44 bs)))
     (λ e. tt)
 
-listed_fits : {A B : Type 0} (with_items : List A → B) (P : B → Type 0) (o : Option (List A)) → IfRead (λ xs. P (with_items xs)) o → IfRead P (listed with_items o)
-listed_fits with_items P None h = tt
-listed_fits with_items P (Some xs) h = h
+pub months_fit : (bs : List ℕ) → IfRead (λ m. (leb (length m) 16 ≡ true) × (each_of code_ok m ≡ true)) (months_read bs)
+months_fit bs = list_fits code_ok 16 month_code_read month_code_within bs
 
-pub months_fit : (bs : List ℕ) → IfRead (λ m. (leb m.len 16 ≡ true) × (each_of code_ok (codes_in m) ≡ true)) (months_read bs)
-months_fit bs = listed_fits months_with (λ m. Fits code_ok 16 m.at m.len) (list_read 16 month_code_read bs) (list_fits code_ok 16 _ month_code_read month_code_within bs)
+pub month_days_fit : (bs : List ℕ) → IfRead (λ d. (leb (length d) 62 ≡ true) × (each_of (position_ok 31) d ≡ true)) (month_days_read bs)
+month_days_fit bs = list_fits (position_ok 31) 62 month_day_read (position_within 31) bs
 
-pub month_days_fit : (bs : List ℕ) → IfRead (λ m. (leb m.len 62 ≡ true) × (each_of (position_ok 31) (values_in m) ≡ true)) (month_days_read bs)
-month_days_fit bs = listed_fits month_days_with (λ m. Fits (position_ok 31) 62 m.at m.len) (list_read 62 month_day_read bs) (list_fits (position_ok 31) 62 _ month_day_read (position_within 31) bs)
-
-pub weekdays_fit : (bs : List ℕ) → IfRead (λ w. (leb w.len 16 ≡ true) × (each_of (λ b. number_ok b.position) (weekdays_in w) ≡ true)) (weekdays_read bs)
-weekdays_fit bs = listed_fits weekdays_with (λ w. Fits (λ b. number_ok b.position) 16 w.at w.len) (list_read 16 by_day_read bs) (list_fits (λ b. number_ok b.position) 16 _ by_day_read by_day_within bs)
+pub weekdays_fit : (bs : List ℕ) → IfRead (λ w. (leb (length w) 16 ≡ true) × (each_of (λ b. number_ok b.position) w ≡ true)) (weekdays_read bs)
+weekdays_fit bs = list_fits (λ b. number_ok b.position) 16 by_day_read by_day_within bs

@@ -6,13 +6,13 @@ use Rattle.days.specs.declared.weekday.Weekday.{Weekday}
 use Rattle.rules.specs.declared.parts.Position.{Position}
 use Rattle.rules.specs.declared.parts.ByDay.{ByDay}
 use Rattle.text.specs.Letters.{same}
+use Rattle.text.specs.Pieces.{until}
 use Rattle.rule_values.specs.Numbers.{number_to, position_read}
 use Rattle.rule_values.specs.Words.{weekday_read}
 
 -- what stands before the first letter, and what stands from it on
 abbrev pub ahead : List ℕ → List ℕ
-ahead [] = []
-ahead (b ∷ bs) = cond (is_ascii_alphabetic b) [] (b ∷ ahead bs)
+ahead bs = until is_ascii_alphabetic bs
 
 abbrev pub lettered : List ℕ → List ℕ
 lettered [] = []

@@ -1,7 +1,6 @@
--- Lists between commas, and arrays that hold them.
-use Rattle.std.specs.Prelude.{ℕ, ◌-◌, cond, List, [], ◌∷◌, ◌++◌, length, replicate, Some, None, Option, nat_le}
+-- Lists between commas, and lists of at most so many elements.
+use Rattle.std.specs.Prelude.{ℕ, cond, List, [], ◌∷◌, length, Some, None, Option, nat_le}
 use Rattle.text.specs.Pieces.{pieces}
-use Rattle.rule_values.specs.declared.lists.Held.{Held}
 
 abbrev pub in_front : {A : Type 0} → Option A → Option (List A) → Option (List A)
 in_front None xs = None
@@ -20,11 +19,3 @@ list_read most read bs = cond (nat_le (length (pieces 44 bs)) most) (all_read re
 -- a list of at most n elements
 abbrev pub at_most : {A : Type 0} → ℕ → List A → Option (List A)
 at_most n xs = cond (nat_le (length xs) n) (Some xs) None
-
--- a list in an array of n places, with d in those that it does not use
-abbrev pub filled : {A : Type 0} → ℕ → A → List A → List A
-filled n d xs = xs ++ replicate (n - length xs) d
-
-abbrev pub held : {A : Type 0} → (n : ℕ) → A → Option (List A) → Option (Held A n)
-held n d None = None
-held n d (Some xs) = Some (record { at = filled n d xs; len = length xs })

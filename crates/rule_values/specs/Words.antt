@@ -1,5 +1,6 @@
 -- Values that are one of a few words. Letter case is ignored.
-use Rattle.std.specs.Prelude.{ℕ, cond, List, [], ◌∷◌, Some, None, codes, Option}
+use Rattle.std.specs.Prelude.{ℕ, List, [], ◌∷◌, codes, Option}
+use Rattle.std.specs.List.{find}
 use Rattle.days.specs.declared.weekday.Weekday.{Weekday}
 use Rattle.days.specs.declared.weekday.Weekday.TheVariants.{Sunday, Monday, Tuesday, Wednesday, Thursday, Friday, Saturday}
 use Rattle.days.specs.Numbers.{letters}
@@ -9,41 +10,26 @@ use Rattle.rules.specs.declared.parts.Skip.{Skip}
 use Rattle.rules.specs.declared.parts.Skip.TheVariants.{Omit, Backward, Forward}
 use Rattle.text.specs.Letters.{same}
 
--- a word and what it means
-pub record Word (A : Type 0) : Type 0 where
-  pub spelled : List ℕ
-  pub means : A
+-- the first of the listed values whose word the text is
+abbrev pub word_read : {A : Type 0} → (A → List ℕ) → List A → List ℕ → Option A
+word_read word xs bs = find (λ x. same (word x) bs) xs
 
-abbrev pub word_read : {A : Type 0} → List (Word A) → List ℕ → Option A
-word_read [] bs = None
-word_read (w ∷ ws) bs = cond (same w.spelled bs) (Some w.means) (word_read ws bs)
+abbrev pub frequency_word : Frequency → List ℕ
+frequency_word Yearly = codes "YEARLY"
+frequency_word Monthly = codes "MONTHLY"
+frequency_word Weekly = codes "WEEKLY"
+frequency_word Daily = codes "DAILY"
 
-abbrev pub frequencies : List (Word Frequency)
-frequencies =
-    record { spelled = codes "YEARLY"; means = Yearly } ∷
-    record { spelled = codes "MONTHLY"; means = Monthly } ∷
-    record { spelled = codes "WEEKLY"; means = Weekly } ∷
-    record { spelled = codes "DAILY"; means = Daily } ∷ []
-
-abbrev pub skips : List (Word Skip)
-skips =
-    record { spelled = codes "OMIT"; means = Omit } ∷
-    record { spelled = codes "BACKWARD"; means = Backward } ∷
-    record { spelled = codes "FORWARD"; means = Forward } ∷ []
-
-abbrev pub in_letters : Weekday → Word Weekday
-in_letters day = record { spelled = letters day; means = day }
-
-abbrev pub weekdays : List (Word Weekday)
-weekdays =
-    in_letters Monday ∷ in_letters Tuesday ∷ in_letters Wednesday ∷ in_letters Thursday ∷
-    in_letters Friday ∷ in_letters Saturday ∷ in_letters Sunday ∷ []
+abbrev pub skip_word : Skip → List ℕ
+skip_word Omit = codes "OMIT"
+skip_word Backward = codes "BACKWARD"
+skip_word Forward = codes "FORWARD"
 
 abbrev pub frequency_read : List ℕ → Option Frequency
-frequency_read bs = word_read frequencies bs
+frequency_read bs = word_read frequency_word (Yearly ∷ Monthly ∷ Weekly ∷ Daily ∷ []) bs
 
 abbrev pub skip_read : List ℕ → Option Skip
-skip_read bs = word_read skips bs
+skip_read bs = word_read skip_word (Omit ∷ Backward ∷ Forward ∷ []) bs
 
 abbrev pub weekday_read : List ℕ → Option Weekday
-weekday_read bs = word_read weekdays bs
+weekday_read bs = word_read letters (Monday ∷ Tuesday ∷ Wednesday ∷ Thursday ∷ Friday ∷ Saturday ∷ Sunday ∷ []) bs

@@ -1,44 +1,24 @@
 // The items of lists: a number and the letters after it.
-ghost use Rattle.std.specs.Prelude.{◌≡◌, [], if◌then◌else◌};
-ghost use Rattle.rule_values.specs.Items.{ahead, lettered, leap_read, which_read, month_code_read, month_day_read, by_day_read};
+ghost use Rattle.std.specs.Prelude.{◌≡◌};
+ghost use Rattle.std.specs.Char.{is_ascii_alphabetic};
+ghost use Rattle.rule_values.specs.Items.{lettered, leap_read, which_read, month_code_read, month_day_read, by_day_read};
 
 use crate::form::Form;
 use crate::numbers::{read_position, read_small};
 use calendar::MonthCode;
 use days::weekday::Weekday;
 use rules::{ByDay, Position};
-use text::{Bytes, reads};
+use text::{Bytes, Stop, UpTo, reads};
 
-// The bytes before the first letter.
+// Stops at a letter.
 #[derive(Clone, Copy)]
-struct Ahead<B> {
-    inner: B,
-    ended: bool,
-}
+struct Letter;
 
-impl<B: Bytes> Bytes for Ahead<B> {
-    ghost left = { λ s. (if s.ended then [] else ahead (B.Bytes.left s.inner)) };
+impl Stop for Letter {
+    ghost stops = { λ _ b. is_ascii_alphabetic b };
 
-    fn next(&mut self) -> Option<u8> {
-        if self.ended {
-            return None;
-        }
-        match self.inner.next() {
-            Some(b) if !b.is_ascii_alphabetic() => Some(b),
-            _ => {
-                self.ended = true;
-                None
-            }
-        }
-    }
-}
-
-fn ahead_of_letters<B: Bytes>(text: B) -> Ahead<B>
-    ensures { (if result.ended then [] else ahead (B.Bytes.left result.inner)) ≡ ahead (B.Bytes.left text) }
-{
-    Ahead {
-        inner: text,
-        ended: false,
+    fn stops(&self, b: u8) -> bool {
+        b.is_ascii_alphabetic()
     }
 }
 
@@ -79,7 +59,7 @@ fn read_which<B: Bytes>(text: B) -> Option<Option<Position>>
     if first.next().is_none() {
         return Some(None);
     }
-    Some(Some(read_position(text, 53)?))
+    read_position(text, 53).map(Some)
 }
 
 impl Form for MonthCode {
@@ -87,7 +67,7 @@ impl Form for MonthCode {
 
     fn read<B: Bytes>(text: B) -> Option<MonthCode> {
         let leap = read_leap(from_letters(text))?;
-        let number = read_small(ahead_of_letters(text), 13)?;
+        let number = read_small(UpTo::new(text, Letter), 13)?;
         Some(MonthCode { number, leap })
     }
 }
@@ -106,7 +86,7 @@ impl Form for ByDay {
 
     fn read<B: Bytes>(text: B) -> Option<ByDay> {
         let weekday = <Weekday as Form>::read(from_letters(text))?;
-        let position = read_which(ahead_of_letters(text))?;
+        let position = read_which(UpTo::new(text, Letter))?;
         Some(ByDay { weekday, position })
     }
 }

@@ -9,4 +9,5 @@ mod values;
 mod words;
 
 pub use form::Form;
-pub use values::{ANY_MONDAY, LastDay, NO_MONTH, NO_POSITION, Number, ScaleName};
+pub use values::{LastDay, Number, ScaleName};
+pub use words::{Word, read_word};

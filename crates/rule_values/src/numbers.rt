@@ -29,18 +29,14 @@ pub fn read_number<B: Bytes>(text: B, most: u16) -> Option<u16>
     ensures exact { result ≡ number_to most (B.Bytes.left text) }
     ensures bounded { IfSome result (λ n. n ≤ most) }
 {
-    match read_digits(text) {
-        Some(n) if 1 <= n && n <= most => Some(n),
-        _ => None,
-    }
+    read_digits(text).filter(|&n| 1 <= n && n <= most)
 }
 
 // The same for a bound that fits a byte.
 pub fn read_small<B: Bytes>(text: B, most: u8) -> Option<u8>
     ensures { result ≡ number_to most (B.Bytes.left text) }
 {
-    let n = read_number(text, u16::from(most))?;
-    Some(n as u8)
+    u8::try_from(read_number(text, u16::from(most))?).ok()
 }
 
 // A number from 1 to `most` after a sign or none.
@@ -49,8 +45,8 @@ pub fn read_position<B: Bytes>(text: B, most: u8) -> Option<Position>
 {
     let mut unsigned = text;
     match unsigned.next() {
-        Some(b'-') => Some(Position::FromEnd(read_small(unsigned, most)?)),
-        Some(b'+') => Some(Position::FromStart(read_small(unsigned, most)?)),
-        _ => Some(Position::FromStart(read_small(text, most)?)),
+        Some(b'-') => read_small(unsigned, most).map(Position::FromEnd),
+        Some(b'+') => read_small(unsigned, most).map(Position::FromStart),
+        _ => read_small(text, most).map(Position::FromStart),
     }
 }

@@ -1,26 +1,77 @@
 // Values that are one of a few words.
-ghost use Rattle.rule_values.specs.Words.{frequency_read, skip_read, weekday_read};
+ghost use Rattle.std.specs.Prelude.{◌≡◌, ℕ, List};
+ghost use Rattle.days.specs.Numbers.{letters};
+ghost use Rattle.rule_values.specs.Words.{word_read, frequency_word, skip_word, frequency_read, skip_read, weekday_read};
 
 use crate::form::Form;
 use days::weekday::Weekday;
 use rules::{Frequency, Skip};
 use text::{Bytes, reads};
 
+// A value that a rule writes as one word.
+pub trait Word: Copy {
+    ghost spelling: { Self → List ℕ };
+
+    fn word(self) -> &'static str
+        ensures { result.now ≡ spelling self };
+}
+
+// The first of the values whose word the text is.
+pub fn read_word<T: Word, B: Bytes>(text: B, values: &[T]) -> Option<T>
+    ensures { result ≡ word_read T.Word.spelling values.now (B.Bytes.left text) }
+{
+    values
+        .iter()
+        .copied()
+        .find(|value| reads(text, value.word().as_bytes()))
+}
+
+impl Word for Frequency {
+    ghost spelling = { frequency_word };
+
+    fn word(self) -> &'static str {
+        match self {
+            Frequency::Yearly => "YEARLY",
+            Frequency::Monthly => "MONTHLY",
+            Frequency::Weekly => "WEEKLY",
+            Frequency::Daily => "DAILY",
+        }
+    }
+}
+
+impl Word for Skip {
+    ghost spelling = { skip_word };
+
+    fn word(self) -> &'static str {
+        match self {
+            Skip::Omit => "OMIT",
+            Skip::Backward => "BACKWARD",
+            Skip::Forward => "FORWARD",
+        }
+    }
+}
+
+impl Word for Weekday {
+    ghost spelling = { letters };
+
+    fn word(self) -> &'static str {
+        self.letters()
+    }
+}
+
 impl Form for Frequency {
     ghost reading = { frequency_read };
 
     fn read<B: Bytes>(text: B) -> Option<Frequency> {
-        if reads(text, b"YEARLY") {
-            Some(Frequency::Yearly)
-        } else if reads(text, b"MONTHLY") {
-            Some(Frequency::Monthly)
-        } else if reads(text, b"WEEKLY") {
-            Some(Frequency::Weekly)
-        } else if reads(text, b"DAILY") {
-            Some(Frequency::Daily)
-        } else {
-            None
-        }
+        read_word(
+            text,
+            &[
+                Frequency::Yearly,
+                Frequency::Monthly,
+                Frequency::Weekly,
+                Frequency::Daily,
+            ],
+        )
     }
 }
 
@@ -28,15 +79,7 @@ impl Form for Skip {
     ghost reading = { skip_read };
 
     fn read<B: Bytes>(text: B) -> Option<Skip> {
-        if reads(text, b"OMIT") {
-            Some(Skip::Omit)
-        } else if reads(text, b"BACKWARD") {
-            Some(Skip::Backward)
-        } else if reads(text, b"FORWARD") {
-            Some(Skip::Forward)
-        } else {
-            None
-        }
+        read_word(text, &[Skip::Omit, Skip::Backward, Skip::Forward])
     }
 }
 
@@ -44,22 +87,17 @@ impl Form for Weekday {
     ghost reading = { weekday_read };
 
     fn read<B: Bytes>(text: B) -> Option<Weekday> {
-        if reads(text, b"MO") {
-            Some(Weekday::Monday)
-        } else if reads(text, b"TU") {
-            Some(Weekday::Tuesday)
-        } else if reads(text, b"WE") {
-            Some(Weekday::Wednesday)
-        } else if reads(text, b"TH") {
-            Some(Weekday::Thursday)
-        } else if reads(text, b"FR") {
-            Some(Weekday::Friday)
-        } else if reads(text, b"SA") {
-            Some(Weekday::Saturday)
-        } else if reads(text, b"SU") {
-            Some(Weekday::Sunday)
-        } else {
-            None
-        }
+        read_word(
+            text,
+            &[
+                Weekday::Monday,
+                Weekday::Tuesday,
+                Weekday::Wednesday,
+                Weekday::Thursday,
+                Weekday::Friday,
+                Weekday::Saturday,
+                Weekday::Sunday,
+            ],
+        )
     }
 }

@@ -1,11 +1,9 @@
 // The questions about what the parts of a rule say together.
-ghost use Rattle.std.specs.Prelude.{◌≡◌, true, Some, nat_le};
+ghost use Rattle.std.specs.Prelude.{◌≡◌, Some};
 ghost use Rattle.rrule.specs.Questions.{one_limit, skip_with_scale, month_days_allowed, numbers_allowed};
-ghost use Rattle.rrule.specs.Rule.{the_weekdays};
 
-use crate::values::{Values, weekdays_or_none};
-use rule_parts::{some_numbered, takes_month_days, takes_numbers};
-use rules::Frequency;
+use crate::values::Values;
+use rules::{Frequency, Weekdays, some_numbered, takes_month_days, takes_numbers};
 
 // Whether COUNT and UNTIL are not both there.
 pub fn one_limit(values: &Values) -> bool
@@ -31,10 +29,9 @@ pub fn month_days_allowed(values: &Values, frequency: Frequency) -> bool
 
 // Whether numbered weekdays stand only with a frequency that takes them, and without BYMONTHDAY.
 pub fn numbers_allowed(values: &Values, frequency: Frequency) -> bool
-    requires { (values.now.frequency ≡ Some frequency) × (nat_le (the_weekdays values.now).len 16 ≡ true) }
+    requires { values.now.frequency ≡ Some frequency }
     ensures { result ≡ numbers_allowed values.now }
 {
-    let weekdays = weekdays_or_none(values.weekdays);
-    !some_numbered(&weekdays.at[0..weekdays.len])
-        || takes_numbers(frequency) && values.month_days.is_none()
+    let weekdays = values.weekdays.unwrap_or(Weekdays::new());
+    !some_numbered(weekdays.items()) || takes_numbers(frequency) && values.month_days.is_none()
 }

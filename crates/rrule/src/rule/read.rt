@@ -8,7 +8,7 @@ use super::made::rule_text;
 use super::questions::{month_days_allowed, numbers_allowed, one_limit, skip_with_scale};
 use crate::fault::RuleFault;
 use crate::named::well_parted;
-use crate::values::{read_values, well_valued};
+use crate::values::read_values;
 use text::Bytes;
 
 // The rule that the value of an RRULE says, or the first question that it fails.
@@ -18,13 +18,8 @@ pub fn read_rule<B: Bytes>(value: B) -> Result<RuleText, RuleFault>
     if !well_parted(value) {
         return Err(RuleFault::NotParts);
     }
-    if !well_valued(value) {
-        return Err(RuleFault::BadValue);
-    }
-    let values = read_values(value);
-    let Some(frequency) = values.frequency else {
-        return Err(RuleFault::NoFrequency);
-    };
+    let values = read_values(value)?;
+    let frequency = values.frequency.ok_or(RuleFault::NoFrequency)?;
     if !one_limit(&values) {
         return Err(RuleFault::CountAndUntil);
     }
