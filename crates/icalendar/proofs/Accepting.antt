@@ -1,14 +1,12 @@
 -- An event that passes every question, and the record that keeps it.
-use Rattle.std.proofs.Common.{◌≡◌, ℕ, List, Some, None, Ok, Err, codes, Option, Result, sym, subst, MatchOption}
+use Rattle.std.proofs.Common.{◌≡◌, ℕ, List, Some, None, Ok, Err, codes, Option, Result, sym, subst}
 use Rattle.calendar.specs.Sheets.{Almanac}
 use Rattle.components.specs.Events.{Event, picked}
-use Rattle.vevent.specs.declared.bounded.Bounded.{Bounded}
 use Rattle.vevent.specs.declared.questions.EventFault.{EventFault}
-use Rattle.vevent.specs.Bounds.{Holds}
 use Rattle.vevent.specs.Questions.{asked, first_failed}
 use Rattle.vevent.specs.Kept.{start_of}
 use Rattle.series.specs.declared.record.Series.{Series}
-use Rattle.series.specs.Record.{Ruled, Accepted, Keeps, Titled, ruled_in, LastRight}
+use Rattle.series.specs.Record.{Ruled, Accepted, Keeps, ruled_in, LastRight}
 use Rattle.icalendar.specs.declared.fault.Fault.{Fault}
 use Rattle.icalendar.specs.declared.fault.Failed.TheVariants.{Event as EventFailed}
 use Rattle.icalendar.specs.Verdicts.{verdict, started, kept, or_fault, rule_among, failed_at, Says, RulesOrNone}
@@ -17,10 +15,6 @@ use Rattle.icalendar.specs.Verdicts.{verdict, started, kept, or_fault, rule_amon
 abbrev by_check : List Almanac → ℕ → Event → Option EventFault → Result Accepted Fault
 by_check shelf file e (Some f) = Err (failed_at f.place (EventFailed f.question))
 by_check shelf file e None = started shelf file e (start_of e)
-
-pub titled : (title : Option (List ℕ)) (t : Option (Bounded ℕ 32)) → MatchOption t (title ≡ None) (λ b. (bytes : List ℕ) × (title ≡ Some bytes) × Holds 32 0 b.at b.len bytes) → Titled t title
-titled title None h = h
-titled title (Some b) h = h
 
 module _ (shelf : List Almanac) (file : ℕ) (e : Event) (s : Series) (start : ℕ) where
   keeps : (d : Result (Option Ruled) Fault) → RulesOrNone shelf start (Ok s.recurrence) d → ((u : Option Ruled) → ruled_in s.recurrence ≡ u → LastRight shelf start s.recurrence → Keeps shelf s (kept file e start u)) → Says shelf (Ok s) (or_fault file e start d)

@@ -3,3 +3,4 @@ pub mod Last
 pub mod Ruled
 pub mod Accepting
 pub mod Reading
+pub mod Mapped

@@ -3,6 +3,7 @@ use Rattle.std.proofs.Common.{◌≡◌, ℕ, List, ◌∷◌, Some, Ok, Err, Op
 use Rattle.calendar.specs.Sheets.{Almanac}
 use Rattle.lines.specs.Lines.{Line}
 use Rattle.lines.specs.Property.{value}
+use Rattle.std.specs.Result.{MatchResult, IsErrAnd}
 use Rattle.rrule.specs.Rule.{Said}
 use Rattle.rrule.specs.Questions.{rule_read}
 use Rattle.rrule.specs.declared.fault.RuleFault.{RuleFault}
@@ -47,3 +48,15 @@ some_ruled shelf start (Err f) (Err k) h = h
 
 pub among : (shelf : List Almanac) (start : ℕ) (ps ls : List Line) (l : Line) (a : Result Recurrence Fault) → ps ≡ l ∷ ls → Rules shelf start a (rule_on shelf start l) → RulesOrNone shelf start (some_read a) (rule_among shelf start ps)
 among shelf start ps ls l a e h = subst (λ (qs : List Line). RulesOrNone shelf start (some_read a) (rule_among shelf start qs)) (sym e) (some_ruled shelf start a (rule_on shelf start l) h)
+
+-- ── what a closure that names the place makes of a question ──
+
+pub named_question : (p : ℕ) (Post : CalendarQuestion → Fault → Type 0) → ((q : CalendarQuestion) (f : Fault) → Post q f → f ≡ failed_at p (CalendarFailed q))
+    → (a : Result Recurrence CalendarQuestion) (b : Result Recurrence Fault) → MatchResult a (λ r. b ≡ Ok r) (λ q. IsErrAnd b (Post q)) → b ≡ with_place p a
+named_question p Post says (Ok r) b h = h
+named_question p Post says (Err q) (Ok r) h = absurd h
+named_question p Post says (Err q) (Err f) h = ap Err (says q f h)
+
+-- a rule whose text fails a question
+pub unread : (shelf : List Almanac) (start : ℕ) (l : Line) (f : RuleFault) (g : Fault) → Err f ≡ rule_read (value l.text) → g ≡ failed_at l.place (RuleFailed f) → Rules shelf start (Err g) (rule_on shelf start l)
+unread shelf start l f g e k = subst (λ (x : Result Said RuleFault). Rules shelf start (Err g) (by_text shelf start l.place x)) e k

@@ -9,12 +9,13 @@ use Rattle.calendar.specs.Sheets.{Almanac}
 use Rattle.calendar.specs.Shelves.{almanac_at}
 use Rattle.sources.specs.declared.events.Limit.{Limit}
 use Rattle.sources.specs.declared.events.Limit.TheVariants.{Endless, Until, Count}
-use Rattle.rules.specs.Parts.{each_of, codes_in}
-use Rattle.rule_parts.specs.Given.{parts_give}
+use Rattle.rules.specs.Parts.{each_of}
+use Rattle.rules.specs.Making.{parts_give}
 use Rattle.rule_values.specs.declared.values.ScaleName.{ScaleName}
 use Rattle.rrule.specs.Rule.{Said}
 use Rattle.rrule.specs.Questions.{rule_read}
 use Rattle.series.specs.declared.record.Recurrence.{Recurrence}
+use Rattle.vevent.specs.declared.questions.EventFault.{EventFault}
 use Rattle.vevent.specs.Questions.{asked, first_failed}
 use Rattle.vevent.specs.Kept.{start_of, rdates, exdates, title_of}
 use Rattle.series.specs.declared.record.Series.{Series}
@@ -30,7 +31,7 @@ use Rattle.icalendar.specs.Files.{events_of}
 
 -- the name that a rule asks for: RSCALE's, or gregorian without RSCALE
 abbrev pub name_asked : Option ScaleName → List ℕ
-name_asked (Some n) = take n.len n.at
+name_asked (Some n) = n.name
 name_asked None = codes "gregorian"
 
 abbrev pub written : Option ScaleName → Bool
@@ -66,7 +67,7 @@ ruled r place = record { parts = r.parts; limit = r.limit; place = place; scaled
 -- the questions on the calendar at a place
 abbrev pub over : Almanac → Said → ℕ → ℕ → Result Ruled CalendarQuestion
 over a r place start =
-    cond (each_of (code_known a) (codes_in r.parts.months))
+    cond (each_of (code_known a) r.parts.months)
     (cond (starts_first a r start) (Ok (ruled r place)) (Err StartIsFirst))
     (Err KnownMonths)
 
@@ -117,11 +118,15 @@ abbrev pub started : List Almanac → ℕ → Event → Option ℕ → Result Ac
 started shelf file e (Some start) = or_fault file e start (rule_among shelf start (picked (codes "RRULE") e.lines))
 started shelf file e None = or_fault file e 0 (Ok None)
 
+-- a question that an event's own lines fail
+abbrev pub of_event : EventFault → Fault
+of_event f = failed_at f.place (EventFailed f.question)
+
 -- what becomes of an event of the file of this number
 abbrev pub verdict : List Almanac → ℕ → Event → Result Accepted Fault
 verdict shelf file e =
     elim (first_failed asked e) [
-      | Some f ↦ Err (failed_at f.place (EventFailed f.question))
+      | Some f ↦ Err (of_event f)
       | None ↦ started shelf file e (start_of e)
     ]
 

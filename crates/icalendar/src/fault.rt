@@ -1,6 +1,6 @@
 // The first question that an event fails.
 use rrule::RuleFault;
-use vevent::EventQuestion;
+use vevent::{EventFault, EventQuestion};
 
 // What a rule is asked about its calendar, each case named for what is wanted.
 #[derive(Clone, Copy)]
@@ -26,4 +26,19 @@ pub enum Failed {
 pub struct Fault {
     pub place: usize,
     pub failed: Failed,
+}
+
+impl From<EventFault> for Fault {
+    ghost use Rattle.std.specs.Prelude.{◌≡◌};
+    ghost use Rattle.icalendar.specs.Verdicts.{of_event};
+
+    ghost from_gives = { λ fault result. result ≡ of_event fault };
+
+    fn from(fault: EventFault) -> Fault {
+        let EventFault { place, question } = fault;
+        Fault {
+            place,
+            failed: Failed::Event(question),
+        }
+    }
 }

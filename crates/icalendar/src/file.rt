@@ -34,8 +34,5 @@ pub fn check_file(file: &[u8]) -> Result<usize, FileQuestion>
     if !all_well_formed(file) {
         return Err(FileQuestion::LineForms);
     }
-    match count_events(file) {
-        Some(events) => Ok(events),
-        None => Err(FileQuestion::Nesting),
-    }
+    count_events(file).ok_or(FileQuestion::Nesting)
 }

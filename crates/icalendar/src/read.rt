@@ -1,12 +1,12 @@
 // A whole file: what becomes of each of its events.
-ghost use Rattle.std.specs.Prelude.{◌≡◌, ◌≤◌, length, IfOk};
+ghost use Rattle.std.specs.Prelude.{◌≡◌, IfOk};
 ghost use Rattle.icalendar.specs.Verdicts.{verdicts};
 ghost use Rattle.icalendar.specs.Read.{AllSay, Reads};
 
 use crate::fault::Fault;
 use crate::file::{FileQuestion, check_file};
 use crate::verdict::read_event;
-use components::to_event;
+use components::next_event;
 use events::RuleShelf;
 use lines::Cursor;
 use series::Series;
@@ -19,15 +19,13 @@ fn read_events<S: RuleShelf>(
     file: &[u8],
     number: u16,
 ) -> Result<Vec<Result<Series, Fault>>, AllocError>
-    requires { length file.now ≤ 60000 }
     ensures { IfOk result (λ v. AllSay (S.Shelf.held shelf.now) v.items (verdicts (S.Shelf.held shelf.now) number file.now)) }
 {
     let mut found = Vec::new(heap);
     let mut lines = Cursor::new(file);
     let mut inside = 0;
-    while to_event(&mut lines, inside) {
-        found.push(read_event(shelf, lines, number))?;
-        lines.skip_line();
+    while let Some(event) = next_event(&mut lines, inside) {
+        found.push(read_event(shelf, event, number))?;
         inside = 2;
     }
     Ok(found)

@@ -1,28 +1,19 @@
 // The rule of an event, over the shelf's calendar that it names.
-ghost use Rattle.std.specs.Prelude.{◌≡◌, true, take};
-ghost use Rattle.days.specs.Numbers.{in_range};
+ghost use Rattle.std.specs.Prelude.{◌≡◌};
 ghost use Rattle.calendar.specs.Shelves.{almanac_at};
 ghost use Rattle.rules.specs.Parts.{each_of};
-ghost use Rattle.rule_parts.specs.Making.{parts_of};
-ghost use Rattle.rule_parts.specs.Given.{parts_give};
+ghost use Rattle.rules.specs.Making.{parts_give};
 ghost use Rattle.rrule.specs.Result.{said_by};
 ghost use Rattle.icalendar.specs.Verdicts.{name_asked, place_named, code_known, within_until, on_calendar, Rules};
 
 use crate::fault::CalendarQuestion;
 use calendar::{MonthCode, Shelf};
-use events::{RuleShelf, last_of_ruled};
+use days::RangeDay;
+use events::{RuleShelf, ShelfRule};
 use rrule::RuleText;
 use rule_values::ScaleName;
-use rules::Rule;
 use series::Recurrence;
-use sources::Limit;
-
-// The first `len` elements.
-fn front<T>(all: &[T], len: usize) -> &[T]
-    ensures { result.now ≡ take len all.now }
-{
-    if len < all.len() { &all[0..len] } else { all }
-}
+use sources::{Ending, Limit, Source};
 
 // The place of the first calendar that bears a name.
 fn find_calendar<S: Shelf>(shelf: &S, name: &[u8]) -> Option<usize>
@@ -36,7 +27,7 @@ fn calendar_asked<S: Shelf>(shelf: &S, scale: Option<ScaleName>) -> Option<usize
     ensures { result ≡ place_named (S.Shelf.held shelf.now) (name_asked scale) }
 {
     match scale {
-        Some(name) => find_calendar(shelf, front(&name.at, name.len)),
+        Some(name) => find_calendar(shelf, name.bytes()),
         None => find_calendar(shelf, b"gregorian"),
     }
 }
@@ -56,12 +47,7 @@ fn code_known<S: Shelf>(shelf: &S, place: usize, code: MonthCode) -> bool
 fn codes_known<S: Shelf>(shelf: &S, place: usize, codes: &[MonthCode]) -> bool
     ensures { result ≡ each_of (code_known (almanac_at (S.Shelf.held shelf.now) place)) codes.now }
 {
-    for code in codes {
-        if !code_known(shelf, place, *code) {
-            return false;
-        }
-    }
-    true
+    codes.iter().all(|code| code_known(shelf, place, *code))
 }
 
 // Whether a day is not after UNTIL.
@@ -75,40 +61,38 @@ fn within_until(limit: Limit, day: u32) -> bool
 }
 
 // Whether the rule gives DTSTART's own day.
-fn gives_start<'r, S: RuleShelf>(shelf: &'r S, place: usize, rule: &'r Rule, start: u32) -> bool
-    requires { in_range start ≡ true }
-    ensures { result ≡ parts_give (almanac_at (S.Shelf.held shelf.now) place) (parts_of rule.now) start start }
+fn gives_start<S: RuleShelf>(ruled: &ShelfRule<S>) -> bool
+    ensures { result ≡ parts_give (almanac_at (S.Shelf.held ruled.now.shelf.now) ruled.now.place) ruled.now.rule.now.parts ruled.now.start ruled.now.start }
 {
-    match shelf.next_given(place, rule, start, start) {
-        Some(day) => day == start,
-        None => false,
-    }
+    let start = ruled.start.day();
+    ruled.next(start) == Some(start)
 }
 
 // The rule over its calendar, or the first question on the calendar that it fails.
 pub fn on_calendar<'r, S: RuleShelf>(
     shelf: &'r S,
     text: &'r RuleText,
-    start: u32,
+    start: RangeDay,
 ) -> Result<Recurrence, CalendarQuestion>
-    requires { in_range start ≡ true }
     ensures { Rules (S.Shelf.held shelf.now) start result (on_calendar (S.Shelf.held shelf.now) (said_by text.now) start) }
 {
-    let Some(place) = calendar_asked(shelf, text.scale) else {
-        return Err(CalendarQuestion::OnShelf);
-    };
-    let months = text.rule.months;
-    if !codes_known(shelf, place, front(&months.at, months.len)) {
+    let place = calendar_asked(shelf, text.scale).ok_or(CalendarQuestion::OnShelf)?;
+    if !codes_known(shelf, place, text.rule.parts.months.items()) {
         return Err(CalendarQuestion::KnownMonths);
     }
-    if !gives_start(shelf, place, &text.rule, start) || !within_until(text.limit, start) {
+    let ruled = ShelfRule {
+        shelf,
+        place,
+        rule: &text.rule,
+        start,
+    };
+    if !gives_start(&ruled) || !within_until(text.limit, start.day()) {
         return Err(CalendarQuestion::StartIsFirst);
     }
     Ok(Recurrence {
         rule: text.rule,
-        limit: text.limit,
+        ending: Ending::of(&ruled, text.limit),
         place,
         scaled: text.scale.is_some(),
-        last: last_of_ruled(shelf, place, &text.rule, start, text.limit),
     })
 }

@@ -1,18 +1,15 @@
 -- What is kept of an accepted event, the days that it gives, and how a series record keeps it.
-use Rattle.std.specs.Prelude.{◌≡◌, ℕ, Bool, true, List, take, Some, None, Option}
+use Rattle.std.specs.Prelude.{◌≡◌, ℕ, Bool, true, List, Some, None, Option}
 use Rattle.days.specs.Numbers.{in_range}
 use Rattle.calendar.specs.Sheets.{Almanac}
 use Rattle.calendar.specs.Shelves.{almanac_at}
 use Rattle.sources.specs.declared.events.Limit.{Limit}
 use Rattle.sources.specs.declared.events.Limit.TheVariants.{Endless}
 use Rattle.sources.specs.Sets.{single}
-use Rattle.sources.specs.Events.{event_days, Kept as KeptLast}
+use Rattle.sources.specs.Events.{event_days, limit_in, Kept as KeptRight}
 use Rattle.rules.specs.Meaning.{gives}
-use Rattle.rule_parts.specs.declared.parts.Parts.{Parts}
-use Rattle.rule_parts.specs.Making.{parts_of}
-use Rattle.rule_parts.specs.Given.{parts_give}
-use Rattle.vevent.specs.declared.bounded.Bounded.{Bounded}
-use Rattle.vevent.specs.Bounds.{Holds}
+use Rattle.rules.specs.declared.parts.Parts.{Parts}
+use Rattle.rules.specs.Making.{parts_give}
 use Rattle.series.specs.declared.record.Recurrence.{Recurrence}
 use Rattle.series.specs.declared.record.Series.{Series}
 
@@ -51,36 +48,30 @@ days_given shelf e = event_days (rule_days shelf e.ruled e.start) (limit_of e.ru
 -- ── as a series record keeps it ──
 
 abbrev pub ruled_in : Option Recurrence → Option Ruled
-ruled_in (Some r) = Some (record { parts = parts_of r.rule; limit = r.limit; place = r.place; scaled = r.scaled })
+ruled_in (Some r) = Some (record { parts = r.rule.parts; limit = limit_in r.ending; place = r.place; scaled = r.scaled })
 ruled_in None = None
 
 -- the days that a series record gives
 abbrev pub series_days : List Almanac → Series → ℕ → Bool
 series_days shelf s =
-    event_days (rule_days shelf (ruled_in s.recurrence) s.start) (limit_of (ruled_in s.recurrence))
-    (take s.rdates.len s.rdates.at) (take s.exdates.len s.exdates.at)
+    event_days (rule_days shelf (ruled_in s.recurrence) s.start) (limit_of (ruled_in s.recurrence)) s.rdates s.exdates
 
--- the last counted day that is kept beside a rule is the right one
+-- what is kept with a rule's ending is right: for a COUNT, the last of the counted days
 abbrev pub LastRight : List Almanac → ℕ → Option Recurrence → Type 0
-LastRight shelf start (Some r) = KeptLast (gives (almanac_at shelf r.place) r.rule start) r.limit r.last
+LastRight shelf start (Some r) = KeptRight (gives (almanac_at shelf r.place) r.rule start) r.ending
 LastRight shelf start None = Unit {0}
 
--- what a question to a series needs
+-- what a question to a series needs, whose start is in the range by its type
 pub record Ready (shelf : List Almanac) (s : Series) : Type 0 where
-  pub ranged : in_range s.start ≡ true
   pub last : LastRight shelf s.start s.recurrence
-
--- a title as it is kept
-abbrev pub Titled : Option (Bounded ℕ 32) → Option (List ℕ) → Type 0
-Titled (Some t) title = (bytes : List ℕ) × (title ≡ Some bytes) × Holds 32 0 t.at t.len bytes
-Titled None title = title ≡ None
 
 -- the series record keeps all that is kept of an event, and can be asked for its days
 pub record Keeps (shelf : List Almanac) (s : Series) (e : Accepted) : Type 0 where
   pub file : s.file ≡ e.file
   pub ruled : ruled_in s.recurrence ≡ e.ruled
   pub start : s.start ≡ e.start
-  pub rdates : Holds 16 0 s.rdates.at s.rdates.len e.rdates
-  pub exdates : Holds 32 0 s.exdates.at s.exdates.len e.exdates
-  pub title : Titled s.title e.title
+  pub rdates : s.rdates ≡ e.rdates
+  pub exdates : s.exdates ≡ e.exdates
+  pub title : s.title ≡ e.title
+  pub ranged : in_range s.start ≡ true
   pub ready : Ready shelf s

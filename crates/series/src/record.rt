@@ -1,19 +1,18 @@
 // A series record, which lies in its owner's table.
+use days::RangeDay;
 use rules::Rule;
-use sources::Limit;
-use vevent::Bounded;
+use short_lists::ShortList;
+use sources::Ending;
 
-// A rule with its limit, over the calendar at a place of the shelf.
+// A rule with its ending, over the calendar at a place of the shelf.
 #[derive(Clone, Copy)]
 pub struct Recurrence {
     pub rule: Rule,
-    pub limit: Limit,
+    pub ending: Ending,
     // the place of the rule's calendar on the shelf, from 0
     pub place: usize,
     // whether RSCALE was written
     pub scaled: bool,
-    // for a COUNT, the last of the counted days, worked out once
-    pub last: Option<u32>,
 }
 
 // What is kept of an accepted event.
@@ -23,9 +22,9 @@ pub struct Series {
     pub file: u16,
     pub recurrence: Option<Recurrence>,
     // DTSTART's day
-    pub start: u32,
-    pub rdates: Bounded<u32, 16>,
-    pub exdates: Bounded<u32, 32>,
+    pub start: RangeDay,
+    pub rdates: ShortList<u32, 16>,
+    pub exdates: ShortList<u32, 32>,
     // the first bytes of SUMMARY
-    pub title: Option<Bounded<u8, 32>>,
+    pub title: Option<ShortList<u8, 32>>,
 }

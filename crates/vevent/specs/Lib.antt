@@ -1,4 +1,3 @@
-pub mod Bounds
 pub mod Lists
 pub mod Questions
 pub mod Kept

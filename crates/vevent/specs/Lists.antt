@@ -1,5 +1,6 @@
 -- Lists of dates between commas.
 use Rattle.std.specs.Prelude.{ℕ, ◌-◌, Bool, true, cond, ◌&&◌, List, [], ◌∷◌, ◌++◌, is_some, Some, None, Option, nat_le}
+use Rattle.std.specs.List.{list_all}
 use Rattle.days.specs.Numbers.{in_range}
 use Rattle.text.specs.Dates.{day_in}
 
@@ -13,8 +14,7 @@ abbrev pub day_ranged : List ℕ → Option ℕ
 day_ranged t = if_ranged (day_in t)
 
 abbrev pub all_days : List (List ℕ) → Bool
-all_days [] = true
-all_days (t ∷ ts) = is_some (day_ranged t) && all_days ts
+all_days ts = list_all (λ t. is_some (day_ranged t)) ts
 
 abbrev pub one_or_none : Option ℕ → List ℕ
 one_or_none None = []

@@ -1,8 +1,10 @@
 -- The questions on an event's own lines, in their order: each gives the place of the line that fails it, or none.
-use Rattle.std.specs.Prelude.{ℕ, min, Bool, cond, ◌&&◌, List, [], ◌∷◌, length, is_some, Some, None, Ok, Err, codes, Option, Result}
+use Rattle.std.specs.Prelude.{◌≡◌, ℕ, min, Bool, cond, ◌&&◌, List, [], ◌∷◌, length, is_some, Some, None, Ok, Err, codes, Option, Result}
 use Rattle.text.specs.Dates.{day_in}
 use Rattle.text.specs.Pieces.{pieces}
+use Rattle.lines.specs.declared.cursor.Cursor.{Cursor}
 use Rattle.lines.specs.Lines.{Line}
+use Rattle.lines.specs.View.{text}
 use Rattle.lines.specs.Property.{date_valued, value}
 use Rattle.components.specs.Events.{Event, picked}
 use Rattle.vevent.specs.declared.questions.EventQuestion.{EventQuestion}
@@ -24,6 +26,10 @@ abbrev pub sooner : Option ℕ → Option ℕ → Option ℕ
 sooner None q = q
 sooner (Some p) None = Some p
 sooner (Some p) (Some q) = Some (min p q)
+
+-- a question to a line, asked in code, is a test of its text
+abbrev pub Tests : (Cursor → Bool → Type 0) → (List ℕ → Bool) → Type 0
+Tests answers test = (line : Cursor) (b : Bool) → answers line b → b ≡ test (text line)
 
 -- where the first line stands whose text fails a test
 abbrev pub first_failing : (List ℕ → Bool) → List Line → Option ℕ

@@ -1,12 +1,10 @@
 // An event's own lines: the questions on them, and what is kept of them.
 #![tactic(auto)]
 
-mod bounded;
 mod kept;
 mod lists;
 mod questions;
 
-pub use bounded::Bounded;
 pub use kept::{days_of, start_of, title_of};
 pub use lists::{add_days, is_day_list, ranged_day, room_after};
 pub use questions::{EventFault, EventQuestion, check_event};

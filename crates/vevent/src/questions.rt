@@ -1,12 +1,12 @@
 // The questions on an event's own lines.
-ghost use Rattle.std.specs.Prelude.{◌≡◌, is_some, Some, None};
+ghost use Rattle.std.specs.Prelude.{◌≡◌, ℕ, Bool, List, is_some, Some, None};
 ghost use Rattle.lines.specs.View.{text};
 ghost use Rattle.components.specs.Events.{event_at, picked};
 ghost use Rattle.vevent.specs.Lists.{if_ranged};
-ghost use Rattle.vevent.specs.Questions.{first_place, second_place, sooner, date_of_line, lists_days, first_failing, first_too_many, one_start, start_date, start_in_range, one_rule, date_lists, few_dates, nothing_replaced, verdict, first_failed, asked};
+ghost use Rattle.vevent.specs.Questions.{first_place, second_place, sooner, date_of_line, lists_days, Tests, first_failing, first_too_many, one_start, start_date, start_in_range, one_rule, date_lists, few_dates, nothing_replaced, verdict, first_failed, asked};
 
 use crate::lists::{is_day_list, room_after};
-use components::find;
+use components::next_named;
 use days::in_range;
 use lines::{Cursor, is_date, value_of};
 use text::read_day;
@@ -41,30 +41,14 @@ pub struct EventFault {
 fn first_place(event: Cursor, name: &[u8]) -> Option<usize>
     ensures { result ≡ first_place (picked name.now (event_at event.entry).lines) }
 {
-    let mut lines = event;
-    lines.skip_line();
-    if find(&mut lines, name) {
-        Some(lines.place())
-    } else {
-        None
-    }
+    next_named(event, name).map(|line| line.place())
 }
 
 // Where the second stands.
 fn second_place(event: Cursor, name: &[u8]) -> Option<usize>
     ensures { result ≡ second_place (picked name.now (event_at event.entry).lines) }
 {
-    let mut lines = event;
-    lines.skip_line();
-    if !find(&mut lines, name) {
-        return None;
-    }
-    lines.skip_line();
-    if find(&mut lines, name) {
-        Some(lines.place())
-    } else {
-        None
-    }
+    first_place(next_named(event, name)?, name)
 }
 
 // The earlier of two places.
@@ -73,8 +57,7 @@ fn earlier_place(one: Option<usize>, other: Option<usize>) -> Option<usize>
 {
     match (one, other) {
         (Some(p), Some(q)) => Some(p.min(q)),
-        (Some(p), None) => Some(p),
-        (None, q) => q,
+        _ => one.or(other),
     }
 }
 
@@ -82,6 +65,7 @@ fn earlier_place(one: Option<usize>, other: Option<usize>) -> Option<usize>
 pub(crate) fn date_of_line(line: Cursor) -> Option<u32>
     ensures { result ≡ date_of_line (text line.entry) }
 {
+    // As `then` and `and_then` this is no plainer: two closures in place of two branches.
     if is_date(line) {
         read_day(value_of(line))
     } else {
@@ -96,17 +80,21 @@ fn lists_days(line: Cursor) -> bool
     is_date(line) && is_day_list(value_of(line))
 }
 
-// Where the first own line named `name` stands that does not list days.
-fn first_bad_list(event: Cursor, name: &[u8]) -> Option<usize>
-    ensures { result ≡ first_failing lists_days (picked name.now (event_at event.entry).lines) }
+// Where the first own line named `name` stands that does not pass.
+fn first_failing<'a, F: Fn(Cursor<'a>) -> bool>(
+    event: Cursor<'a>,
+    name: &[u8],
+    passes: F,
+) -> Option<usize>
+    requires { F.IsAlwaysCallable passes }
+    ensures { (test : List ℕ → Bool) → Tests (F.post passes) test → result ≡ first_failing test (picked name.now (event_at event.entry).lines) }
 {
-    let mut lines = event;
-    lines.skip_line();
-    while find(&mut lines, name) {
-        if !lists_days(lines) {
-            return Some(lines.place());
+    let mut last = event;
+    while let Some(line) = next_named(last, name) {
+        if !passes(line) {
+            return Some(line.place());
         }
-        lines.skip_line();
+        last = line;
     }
     None
 }
@@ -115,15 +103,14 @@ fn first_bad_list(event: Cursor, name: &[u8]) -> Option<usize>
 fn first_too_many(event: Cursor, name: &[u8], room: usize) -> Option<usize>
     ensures { result ≡ first_too_many room (picked name.now (event_at event.entry).lines) }
 {
-    let mut lines = event;
+    let mut last = event;
     let mut room = room;
-    lines.skip_line();
-    while find(&mut lines, name) {
-        match room_after(value_of(lines), room) {
-            Some(left) => room = left,
-            None => return Some(lines.place()),
-        }
-        lines.skip_line();
+    while let Some(line) = next_named(last, name) {
+        let Some(left) = room_after(value_of(line), room) else {
+            return Some(line.place());
+        };
+        room = left;
+        last = line;
     }
     None
 }
@@ -132,57 +119,30 @@ fn first_too_many(event: Cursor, name: &[u8], room: usize) -> Option<usize>
 fn one_start(event: Cursor) -> Option<usize>
     ensures { result ≡ one_start (event_at event.entry) }
 {
-    let mut lines = event;
-    lines.skip_line();
-    if !find(&mut lines, b"DTSTART") {
-        return Some(event.place());
-    }
-    lines.skip_line();
-    if find(&mut lines, b"DTSTART") {
-        Some(lines.place())
-    } else {
-        None
-    }
+    next_named(event, b"DTSTART").map_or(Some(event.place()), |first| {
+        first_place(first, b"DTSTART")
+    })
 }
 
 // Has DTSTART VALUE=DATE and a real date?
 fn start_date(event: Cursor) -> Option<usize>
     ensures { result ≡ start_date (event_at event.entry) }
 {
-    let mut lines = event;
-    lines.skip_line();
-    while find(&mut lines, b"DTSTART") {
-        if date_of_line(lines).is_none() {
-            return Some(lines.place());
-        }
-        lines.skip_line();
-    }
-    None
+    first_failing(event, b"DTSTART", |line| date_of_line(line).is_some())
 }
 
 // Whether a line names a day in the range.
 fn names_ranged(line: Cursor) -> bool
     ensures { result ≡ is_some (if_ranged (date_of_line (text line.entry))) }
 {
-    match date_of_line(line) {
-        Some(day) => in_range(day),
-        None => false,
-    }
+    date_of_line(line).is_some_and(in_range)
 }
 
 // Is it in the range?
 fn start_in_range(event: Cursor) -> Option<usize>
     ensures { result ≡ start_in_range (event_at event.entry) }
 {
-    let mut lines = event;
-    lines.skip_line();
-    while find(&mut lines, b"DTSTART") {
-        if !names_ranged(lines) {
-            return Some(lines.place());
-        }
-        lines.skip_line();
-    }
-    None
+    first_failing(event, b"DTSTART", names_ranged)
 }
 
 // Does each RDATE and EXDATE line list days?
@@ -190,8 +150,8 @@ fn date_lists(event: Cursor) -> Option<usize>
     ensures { result ≡ date_lists (event_at event.entry) }
 {
     earlier_place(
-        first_bad_list(event, b"RDATE"),
-        first_bad_list(event, b"EXDATE"),
+        first_failing(event, b"RDATE", lists_days),
+        first_failing(event, b"EXDATE", lists_days),
     )
 }
 
@@ -219,10 +179,7 @@ fn nothing_replaced(event: Cursor) -> Option<usize>
 fn unless(failed: Option<usize>, question: EventQuestion) -> Result<(), EventFault>
     ensures { verdict result ≡ elim failed [ Some p ↦ Some (record { place = p; question = question }) | None ↦ None ] }
 {
-    match failed {
-        Some(place) => Err(EventFault { place, question }),
-        None => Ok(()),
-    }
+    failed.map_or(Ok(()), |place| Err(EventFault { place, question }))
 }
 
 // Asks the event, whose BEGIN the cursor stands at, every question: the first that it fails.

@@ -1,4 +1,4 @@
-use Rattle.std.proofs.Common.{length, sym, arith}
+use Rattle.std.proofs.Common.{length, sym, arith, ◌∙◌}
 use Rattle.std.proofs.lemmas.Bool.{le-leb}
 use Rattle.std.proofs.lemmas.Bool.Decides.{nat_tests}
 use Rattle.icalendar.proofs.Last.{last_asked}
@@ -7,10 +7,7 @@ use Rattle.icalendar.proofs.file.check_file.Goals as goal
 pub returns-then-file-gt-MOST_BYTES : goal.returns-then-file-gt-MOST_BYTES
 returns-then-file-gt-MOST_BYTES c = grind (arith, nat_tests)
 
-pub returns-in-Some : goal.returns-in-Some
-returns-in-Some c =
-    last_asked _ _ _ _ _ _ (le-leb (length c.args.file.now) 60000 (omega arith)) (sym c.if-not-well_ended.ensures) (sym c.if-not-all_well_formed.ensures) c.in-Some.ensures
-
-pub returns-in-None : goal.returns-in-None
-returns-in-None c =
-    last_asked _ _ _ _ _ _ (le-leb (length c.args.file.now) 60000 (omega arith)) (sym c.if-not-well_ended.ensures) (sym c.if-not-all_well_formed.ensures) c.in-None.ensures
+pub returns : goal.returns
+returns c =
+    c.ok_or.ensures.value
+    ∙ last_asked _ _ _ _ _ _ (le-leb (length c.args.file.now) 60000 (omega arith)) (sym c.if-not-well_ended.ensures) (sym c.if-not-all_well_formed.ensures) c.count_events.ensures

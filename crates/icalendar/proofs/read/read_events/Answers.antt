@@ -1,13 +1,13 @@
-use Rattle.std.proofs.Common.{[], ◌∷◌, ◌++◌, ap, arith}
-use Rattle.components.specs.Events.{event_at, events}
+use Rattle.std.proofs.Common.{[], ◌∷◌, ◌++◌, refl, arith}
+use Rattle.components.specs.Events.{event_at}
 use Rattle.icalendar.specs.Verdicts.{verdict}
 use Rattle.icalendar.proofs.Reading.{say_next, on_to_next}
 use Rattle.icalendar.proofs.read.read_events.Goals as goal
 
-pub loop-lines-preserved : goal.loop-lines-preserved
-loop-lines-preserved g c =
+pub loop-event-preserved : goal.loop-event-preserved
+loop-event-preserved g c =
     let shelf = g.S.Shelf.held c.args.shelf.now in
-    let so = c.loop-lines.invariant.0 in
+    let so = c.loop-event.invariant.0 in
     let judge = verdict shelf c.args.number in
-    let e = event_at c.to_event.new.lines in
-    ((so.0 ++ judge e ∷ [], say_next shelf _ _ so.0 c.read_event.result (judge e) c.in_ok-push.ensures.items so.1 c.read_event.ensures, on_to_next judge so.0 _ e _ _ _ c.loop-lines-test.ensures.found (ap (events 2) c.skip_line.ensures) so.2), omega arith)
+    let e = event_at c.in-Some.event in
+    ((so.0 ++ judge e ∷ [], say_next shelf _ _ so.0 c.read_event.result (judge e) c.in_ok-push.ensures.items so.1 c.read_event.ensures, on_to_next judge so.0 _ e _ _ _ c.in-Some.ensures.found refl so.2), omega arith)

@@ -1,8 +1,5 @@
-use Rattle.icalendar.proofs.Reading.{small, counted}
+use Rattle.icalendar.proofs.Reading.{counted}
 use Rattle.icalendar.proofs.read.read_file.Goals as goal
-
-pub read_events-requires : goal.read_events-requires
-read_events-requires g c = small c.args.file.now c.in_default.field-0 c.in_default.ensures
 
 pub returns : goal.returns
 returns g c = (counted c.args.file.now c.in_default.field-0 c.in_default.ensures, c.in_ok-read_events.ensures)

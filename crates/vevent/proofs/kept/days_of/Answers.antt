@@ -1,20 +1,17 @@
-use Rattle.std.proofs.Common.{List, take, ap, ◌∙◌, subst}
-use Rattle.lines.specs.Lines.{Line}
+use Rattle.std.proofs.Common.{◌++◌, ap, sym, ◌∙◌}
+use Rattle.text.specs.Pieces.{pieces}
+use Rattle.lines.specs.View.{rest}
 use Rattle.components.specs.Events.{picked, own}
-use Rattle.vevent.specs.Bounds.{Holds}
+use Rattle.vevent.specs.Lists.{days_among}
 use Rattle.vevent.specs.Kept.{days_listed}
-use Rattle.vevent.proofs.Held.{line_more, all_in}
+use Rattle.vevent.proofs.Filling.{filled, twice}
 use Rattle.vevent.proofs.kept.days_of.Goals as goal
 
-pub loop-lines-preserved : goal.loop-lines-preserved
-loop-lines-preserved g c =
-    let so = c.loop-lines.invariant in
-    let later = ap (λ (ls : List Line). picked c.args.name.now (own 0 ls)) c.skip_line-in-loop-lines.ensures in
-    (_, c.add_days.ensures so.0 so.1, line_more g.row.N so.0 _ _ _ _ _ c.loop-lines-test.ensures later c.value_of.ensures ∙ so.2)
-
-pub returns : goal.returns
-returns g c =
-    let so = c.loop-lines.invariant in
-    let none = ap days_listed c.loop-lines-test.ensures in
-    subst (Holds g.row.N 0 c.loop-lines.days.at c.loop-lines.days.len) (all_in g.row.N so.0 _ so.1.fits none ∙ so.2
-    ∙ ap (λ (ls : List Line). take g.row.N (days_listed (picked c.args.name.now (own 0 ls)))) c.skip_line.ensures) so.1
+pub loop-line-preserved : goal.loop-line-preserved
+loop-line-preserved g c =
+    let later = days_listed (picked c.args.name.now (own 0 (rest c.in-Some.line).later)) in
+    ap (λ ds. filled g.row.N ds later) c.add_days.ensures
+    ∙ twice g.row.N c.loop-line.days _ later
+    ∙ ap (λ t. filled g.row.N c.loop-line.days (days_among (pieces 44 t) ++ later)) c.value_of.ensures
+    ∙ sym (ap (λ ls. filled g.row.N c.loop-line.days (days_listed ls)) c.in-Some.ensures)
+    ∙ c.loop-line.invariant

@@ -1,20 +1,20 @@
-use Rattle.std.proofs.Common.{ℕ, List, [], ◌∷◌, ◌++◌, take, sym, ap, ◌∙◌, subst, append-nil}
-use Rattle.std.proofs.lemmas.List.{take_all}
-use Rattle.vevent.specs.Bounds.{Holds}
-use Rattle.vevent.specs.Lists.{days_among}
-use Rattle.vevent.proofs.Held.{added}
+use Rattle.std.proofs.Common.{◌≡◌, ◌≤◌, ◌<◌, ◌∷◌, [], ◌++◌, length, sym, ap, ◌∙◌, arith}
+use Rattle.std.proofs.lemmas.Grind.{common_steps}
+use Rattle.vevent.specs.Lists.{days_among, one_or_none}
+use Rattle.vevent.proofs.Filling.{filled, full, one_more}
 use Rattle.vevent.proofs.lists.add_days.Goals as goal
 
-pub loop-date-preserved-in-Some-ranged_day : goal.loop-date-preserved-in-Some-ranged_day
-loop-date-preserved-in-Some-ranged_day g c xs held =
-    let before = c.loop-date.invariant xs held in
-    let day = c.in-Some-ranged_day.day in
-    (take g.row.N (before.0 ++ day ∷ []), c.push.ensures 0 before.0 before.1, added g.row.N before.0 _ _ _ day c.in-Some.ensures c.in-Some-ranged_day.ensures ∙ before.2)
+pub returns-then-is_err : goal.returns-then-is_err
+returns-then-is_err g c =
+    let h : g.row.N ≤ length c.loop-date.days = grind (arith, common_steps) in
+    let e : c.push.new.self ≡ c.loop-date.days = grind (arith, common_steps) in
+    e ∙ sym (full g.row.N c.loop-date.days (days_among c.loop-date.date-iterator) h) ∙ c.loop-date.invariant ∙ ap (λ ds. filled g.row.N c.args.days.now (days_among ds)) (c.into_iter-date-iterator.ensures.into_iter_gives ∙ c.of-date-items.ensures)
 
-pub returns : goal.returns
-returns g c xs held =
-    let before = c.loop-date.invariant xs held in
-    let ys = before.0 in
-    let all = sym (take_all g.row.N ys before.1.fits) ∙ ap (take g.row.N) (sym (append-nil ys)) ∙ ap (λ (ts : List (List ℕ)). take g.row.N (ys ++ days_among ts)) (sym c.in_default.ensures) ∙ before.2
-    ∙ ap (λ (ts : List (List ℕ)). take g.row.N (xs ++ days_among ts)) c.of-dates.ensures in
-    subst (Holds g.row.N 0 c.loop-date.days.at c.loop-date.days.len) all before.1
+pub loop-date-preserved-else-is_err : goal.loop-date-preserved-else-is_err
+loop-date-preserved-else-is_err g c =
+    let h : length c.loop-date.days < g.row.N = grind (arith, common_steps) in
+    let e : c.push.new.self ≡ c.loop-date.days ++ c.in-Some-ranged_day.day ∷ [] = grind (arith, common_steps) in
+    ap (λ ds. filled g.row.N ds (days_among c.next.new.self)) e
+    ∙ one_more g.row.N c.loop-date.days c.in-Some-ranged_day.day (days_among c.loop-date.date-iterator) (days_among c.next.new.self) h
+    (ap days_among c.in-Some.ensures.steps ∙ ap (λ o. one_or_none o ++ days_among c.next.new.self) (sym c.in-Some-ranged_day.ensures))
+    ∙ c.loop-date.invariant
