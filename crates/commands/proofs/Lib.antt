@@ -1,2 +1,3 @@
 pub mod Digits
 pub mod Lines
+pub mod Folded

@@ -1,51 +1,47 @@
--- The words of a line, the first of them and the others.
-use Rattle.std.proofs.Common.{◌≡◌, ℕ, suc, ◌+◌, ◌≤◌, true, false, List, [], ◌∷◌, length, take, drop, sym, refl, ap, ◌∙◌, ⊎_elim, one-add, arith}
-use Rattle.std.proofs.lemmas.Bool.{cases_Bool, cond-true, cond-false, true≢false}
+-- The words of a line as its parts between blanks.
+use Rattle.std.proofs.Common.{◌≡◌, ℕ, ◌==◌, Bool, true, false, not, cond, List, [], ◌∷◌, length, filter, sym, refl, ap, ◌∙◌, ⊎_elim, arith}
+use Rattle.std.proofs.lemmas.Bool.{cases_Bool, cond-true, cond-false, true≢false, ne_eqb}
+use Rattle.std.specs.List.{slice_split, onto_first as onto_part}
 use Rattle.commands.specs.Words.{blank, at_break, onto_first, words}
-use Rattle.commands.specs.Fronts.{after_blanks, word_length}
 
--- blanks at the front make no words
-pub words_after_blanks : (bs : List ℕ) → words (after_blanks bs) ≡ words bs
-words_after_blanks [] = refl
-words_after_blanks (b ∷ bs) =
-    ⊎_elim (λ e. ap words (cond-true _ _ _ e) ∙ words_after_blanks bs ∙ sym (cond-true _ _ _ e))
-    (λ e. ap words (cond-false _ (after_blanks bs) _ e)) (cases_Bool (blank b))
+-- where no word goes on, the first part is empty
+first_empty : (bs : List ℕ) → at_break bs ≡ true → (ps : List (List ℕ)) × (slice_split blank bs ≡ [] ∷ ps)
+first_empty [] e = ([], refl)
+first_empty (b ∷ bs) e = (slice_split blank bs, cond-true _ _ _ e)
 
--- and no blank is left there
-no_blank_left : (bs : List ℕ) → (after_blanks bs ≡ [] → ⊥) → at_break (after_blanks bs) ≡ false
-no_blank_left [] h = absurd (h refl)
-no_blank_left (b ∷ bs) h =
-    ⊎_elim (λ e. ap at_break (cond-true _ _ _ e) ∙ no_blank_left bs (λ z. h (cond-true _ _ _ e ∙ z)))
-    (λ e. ap at_break (cond-false _ (after_blanks bs) _ e) ∙ e) (cases_Bool (blank b))
+first_filled : (bs : List ℕ) → at_break bs ≡ false → (c : ℕ) × (p : List ℕ) × (ps : List (List ℕ)) × (slice_split blank bs ≡ (c ∷ p) ∷ ps)
+first_filled [] e = absurd (true≢false e)
+first_filled (b ∷ bs) e = by (slice_split blank bs) (cond-false _ _ _ e)
+  where
+    by : (parts : List (List ℕ)) → slice_split blank (b ∷ bs) ≡ onto_part b parts → (c : ℕ) × (p : List ℕ) × (ps : List (List ℕ)) × (slice_split blank (b ∷ bs) ≡ (c ∷ p) ∷ ps)
+    by [] f = (b, [], [], f)
+    by (p ∷ ps) f = (b, p, ps, f)
 
-no_word : (bs : List ℕ) → at_break bs ≡ true → word_length bs ≡ 0
-no_word [] e = refl
-no_word (b ∷ bs) e = cond-true _ _ _ e
+abbrev pub not_empty : List ℕ → Bool
+not_empty w = not (length w == 0)
 
-length_more : (b : ℕ) (bs : List ℕ) → blank b ≡ false → word_length (b ∷ bs) ≡ suc (word_length bs)
-length_more b bs e = cond-false _ _ _ e ∙ one-add (word_length bs)
+kept : (b : ℕ) (w : List ℕ) (ws : List (List ℕ)) → filter not_empty ((b ∷ w) ∷ ws) ≡ (b ∷ w) ∷ filter not_empty ws
+kept b w ws = cond-true _ _ _ (ap not (ne_eqb (length (b ∷ w)) 0 (λ z. omega arith)))
 
--- the first n bytes, as a word, before the words of the others
-abbrev parted : List ℕ → ℕ → List (List ℕ)
-parted bs n = take n bs ∷ words (drop n bs)
+-- a byte that is no blank, before words that are the parts that are not empty
+one_more : (b : ℕ) (bs : List ℕ) → words bs ≡ filter not_empty (slice_split blank bs) → cond (at_break bs) ((b ∷ []) ∷ words bs) (onto_first b (words bs)) ≡ filter not_empty (onto_part b (slice_split blank bs))
+one_more b bs same = ⊎_elim ends goes_on (cases_Bool (at_break bs))
+  where
+    ends : at_break bs ≡ true → cond (at_break bs) ((b ∷ []) ∷ words bs) (onto_first b (words bs)) ≡ filter not_empty (onto_part b (slice_split blank bs))
+    ends e =
+        let (ps, s) = first_empty bs e in
+        cond-true _ _ _ e ∙ ap (λ ws. (b ∷ []) ∷ ws) (same ∙ ap (filter not_empty) s) ∙
+        sym (ap (λ parts. filter not_empty (onto_part b parts)) s)
 
--- a line that begins with a word has it before its other words
-first_word : (bs : List ℕ) → at_break bs ≡ false → words bs ≡ parted bs (word_length bs)
-first_word [] h = absurd (true≢false h)
-first_word (b ∷ bs) h =
-    let longer : words (b ∷ bs) ≡ parted (b ∷ bs) (suc (word_length bs)) =
-    cond-false _ _ _ h ∙
-    ⊎_elim (λ e. cond-true _ _ _ e ∙ sym (ap (λ n. parted (b ∷ bs) (suc n)) (no_word bs e)))
-    (λ e. cond-false _ _ _ e ∙ ap (onto_first b) (first_word bs e)) (cases_Bool (at_break bs)) in
-    longer ∙ sym (ap (parted (b ∷ bs)) (length_more b bs h))
+    goes_on : at_break bs ≡ false → cond (at_break bs) ((b ∷ []) ∷ words bs) (onto_first b (words bs)) ≡ filter not_empty (onto_part b (slice_split blank bs))
+    goes_on e =
+        let (c, p, ps, s) = first_filled bs e in
+        cond-false _ _ _ e ∙ ap (onto_first b) (same ∙ ap (filter not_empty) s ∙ kept c p ps) ∙
+        sym (kept b (c ∷ p) ps) ∙ sym (ap (λ parts. filter not_empty (onto_part b parts)) s)
 
-pub within : (bs : List ℕ) → word_length bs ≤ length bs
-within [] = omega arith
-within (b ∷ bs) =
-    ⊎_elim (λ e. omega (arith, cond-true (blank b) 0 (1 + word_length bs) e))
-    (λ e. omega (arith, cond-false (blank b) 0 (1 + word_length bs) e, within bs)) (cases_Bool (blank b))
-
--- t is what is left after the blanks
-pub next_words : (bs t : List ℕ) → t ≡ after_blanks bs → (t ≡ [] → ⊥) → words bs ≡ parted t (word_length t)
-next_words bs t e h =
-    sym (words_after_blanks bs) ∙ ap words (sym e) ∙ first_word t (ap at_break e ∙ no_blank_left bs (λ z. h (e ∙ z)))
+-- the words are the parts that are not empty
+pub words_split : (bs : List ℕ) → words bs ≡ filter not_empty (slice_split blank bs)
+words_split [] = refl
+words_split (b ∷ bs) =
+    ⊎_elim (λ e. cond-true _ _ _ e ∙ words_split bs ∙ sym (ap (filter not_empty) (cond-true _ _ _ e)))
+    (λ e. cond-false _ _ _ e ∙ one_more b bs (words_split bs) ∙ sym (ap (filter not_empty) (cond-false _ _ _ e))) (cases_Bool (blank b))

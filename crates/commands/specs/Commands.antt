@@ -10,7 +10,9 @@ use Rattle.commands.specs.declared.command.Command.TheVariants.{Date, Day, Year}
 use Rattle.commands.specs.declared.complaint.Complaint.{Complaint}
 use Rattle.commands.specs.declared.complaint.Complaint.TheVariants.{Unknown, DateWords, DayWords, YearWords, BadDate, BadYear, BadCode, BadDay}
 use Rattle.commands.specs.Words.{words}
-use Rattle.commands.specs.Numbers.{number_read}
+use Rattle.commands.specs.Numbers.{numeral_read}
+use Rattle.commands.specs.declared.numbers.Numbers.{Numbers}
+use Rattle.commands.specs.declared.numbers.Numbers.TheVariants.{Digits}
 use Rattle.commands.specs.Codes.{code_read}
 
 -- what is asked for: the day of a date of eight digits, a date of a calendar by the calendar's name, or a year of one
@@ -35,16 +37,16 @@ with (Ok x) f = f x
 with (Err e) f = Err e
 
 -- a year is a number of 32 bits, and a day one of 8
-abbrev pub year_read : List ℕ → Result ℕ Complaint
-year_read word = ok_or (number_read (2 ^ 32 - 1) word) BadYear
+abbrev pub year_read : Numbers → List ℕ → Result ℕ Complaint
+year_read numbers word = ok_or (numeral_read numbers (2 ^ 32 - 1) word) BadYear
 
-abbrev pub day_read : List ℕ → Result ℕ Complaint
-day_read word = ok_or (number_read 255 word) BadDay
+abbrev pub day_read : Numbers → List ℕ → Result ℕ Complaint
+day_read numbers word = ok_or (numeral_read numbers 255 word) BadDay
 
 -- a date by the words for its year, its month code and its day
-abbrev pub named_read : List ℕ → List ℕ → List ℕ → Result NamedDate Complaint
-named_read year code day =
-    with (year_read year) (λ y. with (ok_or (code_read code) BadCode) (λ c. with (day_read day) (λ d. Ok (record { year = y; code = c; day = d }))))
+abbrev pub named_read : Numbers → List ℕ → List ℕ → List ℕ → Result NamedDate Complaint
+named_read numbers year code day =
+    with (year_read numbers year) (λ y. with (ok_or (code_read code) BadCode) (λ c. with (day_read numbers day) (λ d. Ok (record { year = y; code = c; day = d }))))
 
 abbrev pub for_date_read : Result ℕ DateFault → Result Asked Complaint
 for_date_read (Ok n) = Ok (for_date n)
@@ -57,31 +59,32 @@ date_command (date ∷ []) = for_date_read (date_read date)
 date_command (date ∷ w ∷ more) = Err DateWords
 
 -- day CALENDAR YEAR CODE DAY
-abbrev pub day_command : List (List ℕ) → Result Asked Complaint
-day_command [] = Err DayWords
-day_command (name ∷ []) = Err DayWords
-day_command (name ∷ year ∷ []) = Err DayWords
-day_command (name ∷ year ∷ code ∷ []) = Err DayWords
-day_command (name ∷ year ∷ code ∷ day ∷ []) = with (named_read year code day) (λ t. Ok (for_day name t))
-day_command (name ∷ year ∷ code ∷ day ∷ w ∷ more) = Err DayWords
+abbrev pub day_command : Numbers → List (List ℕ) → Result Asked Complaint
+day_command numbers [] = Err DayWords
+day_command numbers (name ∷ []) = Err DayWords
+day_command numbers (name ∷ year ∷ []) = Err DayWords
+day_command numbers (name ∷ year ∷ code ∷ []) = Err DayWords
+day_command numbers (name ∷ year ∷ code ∷ day ∷ []) = with (named_read numbers year code day) (λ t. Ok (for_day name t))
+day_command numbers (name ∷ year ∷ code ∷ day ∷ w ∷ more) = Err DayWords
 
 -- year CALENDAR YEAR
-abbrev pub year_command : List (List ℕ) → Result Asked Complaint
-year_command [] = Err YearWords
-year_command (name ∷ []) = Err YearWords
-year_command (name ∷ year ∷ []) = with (year_read year) (λ y. Ok (for_year name y))
-year_command (name ∷ year ∷ w ∷ more) = Err YearWords
+abbrev pub year_command : Numbers → List (List ℕ) → Result Asked Complaint
+year_command numbers [] = Err YearWords
+year_command numbers (name ∷ []) = Err YearWords
+year_command numbers (name ∷ year ∷ []) = with (year_read numbers year) (λ y. Ok (for_year name y))
+year_command numbers (name ∷ year ∷ w ∷ more) = Err YearWords
 
 -- the first word says which command it is, and the others are its arguments
-abbrev pub command_by : List ℕ → List (List ℕ) → Result Asked Complaint
-command_by keyword arguments =
+abbrev pub command_by : Numbers → List ℕ → List (List ℕ) → Result Asked Complaint
+command_by numbers keyword arguments =
     cond (bytes_eq keyword (codes "date")) (date_command arguments)
-    (cond (bytes_eq keyword (codes "day")) (day_command arguments)
-    (cond (bytes_eq keyword (codes "year")) (year_command arguments) (Err Unknown)))
+    (cond (bytes_eq keyword (codes "day")) (day_command numbers arguments)
+    (cond (bytes_eq keyword (codes "year")) (year_command numbers arguments) (Err Unknown)))
 
-abbrev pub command_of : List (List ℕ) → Result Asked Complaint
-command_of [] = Err Unknown
-command_of (keyword ∷ arguments) = command_by keyword arguments
+abbrev pub command_of : Numbers → List (List ℕ) → Result Asked Complaint
+command_of numbers [] = Err Unknown
+command_of numbers (keyword ∷ arguments) = command_by numbers keyword arguments
 
+-- a line's words stand between blanks, and its numbers have no sign
 abbrev pub command_read : List ℕ → Result Asked Complaint
-command_read line = command_of (words line)
+command_read line = command_of Digits (words line)

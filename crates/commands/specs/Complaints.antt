@@ -1,15 +1,8 @@
 -- What a complaint says of a line that cannot be used.
-use Rattle.std.specs.Prelude.{ℕ, ◌+◌, ◌-◌, ◌^◌, min, List, ◌++◌, codes, decimal}
-use Rattle.days.specs.declared.digits.DateFault.{DateFault}
-use Rattle.days.specs.declared.digits.DateFault.TheVariants.{Length, NoDigit, NoSuchDay}
+use Rattle.std.specs.Prelude.{ℕ, List, codes}
+use Rattle.days.specs.Faults.{fault_text}
 use Rattle.commands.specs.declared.complaint.Complaint.{Complaint}
 use Rattle.commands.specs.declared.complaint.Complaint.TheVariants.{Unknown, DateWords, DayWords, YearWords, BadDate, BadYear, BadCode, BadDay, NoCalendar}
-
--- the place of a byte counts from 1, and stays within 64 bits
-abbrev pub fault_text : DateFault → List ℕ
-fault_text Length = codes "a date has eight digits"
-fault_text (NoDigit i) = codes "byte " ++ (decimal (min (i + 1) (2 ^ 64 - 1)) ++ codes " of the date is no digit")
-fault_text NoSuchDay = codes "there is no such date"
 
 abbrev pub complaint_text : Complaint → List ℕ
 complaint_text Unknown = codes "the commands are date, day and year"

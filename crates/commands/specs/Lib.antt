@@ -1,5 +1,4 @@
 pub mod Words
-pub mod Fronts
 pub mod Numbers
 pub mod Codes
 pub mod Commands

@@ -1,5 +1,7 @@
--- The words of a line: the bytes between blanks.
-use Rattle.std.specs.Prelude.{ℕ, Bool, true, cond, ◌||◌, List, [], ◌∷◌, Some, None, Option, ◌==◌}
+-- The words of a line: the bytes between blanks. And words that an iterator gives.
+use Rattle.std.specs.Prelude.{ℕ, Bool, true, cond, ◌||◌, List, [], ◌∷◌, ◌==◌, Option}
+use Rattle.std.specs.Borrow.{Bor}
+use Rattle.std.proofs.lemmas.Iterator.{YieldsList}
 
 -- a space or a tab
 abbrev pub blank : ℕ → Bool
@@ -19,8 +21,6 @@ abbrev pub words : List ℕ → List (List ℕ)
 words [] = []
 words (b ∷ bs) = cond (blank b) (words bs) (cond (at_break bs) ((b ∷ []) ∷ words bs) (onto_first b (words bs)))
 
--- the one word of a line that has no other
-abbrev pub only : List (List ℕ) → Option (List ℕ)
-only [] = None
-only (w ∷ []) = Some w
-only (w ∷ v ∷ more) = None
+-- the iterator gives these words, and then none
+abbrev pub Gives : {S : Type 0} → (S → Option (Bor (List ℕ)) → S → Type 0) → S → List (List ℕ) → Type 0
+Gives steps s ws = YieldsList steps (λ w. w.now) s ws

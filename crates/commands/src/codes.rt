@@ -1,6 +1,6 @@
 // Month codes, as commands write them.
 ghost use Rattle.std.specs.Prelude.{◌≡◌};
-ghost use Rattle.commands.specs.Codes.{month_number, month_read, coded, code_read};
+ghost use Rattle.commands.specs.Codes.{month_number, month_read, code_read};
 
 use calendar::MonthCode;
 
@@ -8,7 +8,7 @@ use calendar::MonthCode;
 fn month_number(n: u8) -> Option<u8>
     ensures { result ≡ month_number n }
 {
-    if 1 <= n && n <= 13 { Some(n) } else { None }
+    (1..=13).contains(&n).then_some(n)
 }
 
 // A month's number of one or two digits.
@@ -24,21 +24,13 @@ fn read_month(bytes: &[u8]) -> Option<u8>
     }
 }
 
-fn with_mark(number: Option<u8>, leap: bool) -> Option<MonthCode>
-    ensures { result ≡ coded leap number }
-{
-    match number {
-        Some(number) => Some(MonthCode { number, leap }),
-        None => None,
-    }
-}
-
 // A month code: 5, 05 or 5L.
 pub fn read_code(bytes: &[u8]) -> Option<MonthCode>
     ensures { result ≡ code_read bytes.now }
 {
-    match bytes {
-        [digits @ .., b'L' | b'l'] => with_mark(read_month(digits), true),
-        digits => with_mark(read_month(digits), false),
-    }
+    let (digits, leap) = match bytes {
+        [digits @ .., b'L' | b'l'] => (digits, true),
+        digits => (digits, false),
+    };
+    read_month(digits).map(|number| MonthCode { number, leap })
 }

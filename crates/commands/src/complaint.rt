@@ -1,12 +1,13 @@
 // What is wrong with a line that cannot be used.
-ghost use Rattle.std.specs.Prelude.{Some};
-ghost use Rattle.commands.specs.Complaints.{fault_text, complaint_text};
+ghost use Rattle.std.specs.Prelude.{◌≡◌, Some};
+ghost use Rattle.commands.specs.Complaints.{complaint_text};
+ghost use Rattle.commands.specs.declared.complaint.Complaint.TheVariants.{BadDate};
 
 use days::digits::DateFault;
 use std::fmt;
 
 // Why a command cannot be used.
-#[derive(Drop)]
+#[derive(Clone, Copy, Debug, PartialEq, Eq)]
 pub enum Complaint {
     Unknown,
     DateWords,
@@ -19,22 +20,11 @@ pub enum Complaint {
     NoCalendar,
 }
 
-// A date's fault, in words.
-#[derive(Drop)]
-struct FaultText(DateFault);
+impl From<DateFault> for Complaint {
+    ghost from_gives = { λ fault complaint. complaint ≡ BadDate fault };
 
-impl fmt::Display for FaultText {
-    ghost output = { λ text. Some (fault_text text.0) };
-
-    fn fmt<W: fmt::Write>(&self, f: &mut fmt::Formatter<W>) -> fmt::Result {
-        match self.0 {
-            DateFault::Length => write!(f, "a date has eight digits"),
-            DateFault::NoDigit(at) => {
-                let place = at.saturating_add(1);
-                write!(f, "byte {place} of the date is no digit")
-            }
-            DateFault::NoSuchDay => write!(f, "there is no such date"),
-        }
+    fn from(fault: DateFault) -> Complaint {
+        Self::BadDate(fault)
     }
 }
 
@@ -53,10 +43,7 @@ impl fmt::Display for Complaint {
                 f,
                 "year takes a calendar and a year, as year hebrew 5774"
             ),
-            Complaint::BadDate(fault) => {
-                let fault = FaultText(*fault);
-                write!(f, "{fault}")
-            }
+            Complaint::BadDate(fault) => write!(f, "{fault}"),
             Complaint::BadYear => write!(f, "the year is no number of 32 bits"),
             Complaint::BadCode => write!(f, "a month code is 1 to 13, with or without L"),
             Complaint::BadDay => write!(f, "the day is no number from 0 to 255"),

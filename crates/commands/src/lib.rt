@@ -6,8 +6,8 @@ mod command;
 mod complaint;
 mod numbers;
 mod reading;
-mod words;
 
 pub use command::Command;
 pub use complaint::Complaint;
+pub use numbers::Numbers;
 pub use reading::read_command;

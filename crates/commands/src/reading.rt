@@ -1,98 +1,115 @@
-// Commands, read from a line.
-ghost use Rattle.std.specs.Prelude.{◌≡◌};
-ghost use Rattle.commands.specs.Words.{words};
-ghost use Rattle.commands.specs.Commands.{meant, year_read, day_read, named_read, date_command, day_command, year_command, command_read};
+// Commands, read from their words.
+ghost use Rattle.std.specs.Prelude.{◌≡◌, List, ℕ};
+ghost use Rattle.commands.specs.Words.{Gives};
+ghost use Rattle.commands.specs.Commands.{meant, year_read, day_read, named_read, date_command, day_command, year_command, command_of, command_read};
 
 use crate::codes::read_code;
-use crate::numbers::read_number;
-use crate::words::{next_word, only_word, same_word};
-use crate::{Command, Complaint};
+use crate::{Command, Complaint, Numbers};
 use calendar::NamedDate;
 use days::digits::read_date;
 
-fn read_year(word: &[u8]) -> Result<u32, Complaint>
-    ensures { result ≡ year_read word.now }
+fn read_year(word: &[u8], numbers: Numbers) -> Result<u32, Complaint>
+    ensures { result ≡ year_read numbers word.now }
 {
-    read_number(word, u32::MAX).ok_or(Complaint::BadYear)
+    numbers.read(word, u32::MAX).ok_or(Complaint::BadYear)
 }
 
-fn read_day(word: &[u8]) -> Result<u8, Complaint>
-    ensures { result ≡ day_read word.now }
+// A year's twin but for its bound, its complaint and its type: a function over all three would be no plainer.
+fn read_day(word: &[u8], numbers: Numbers) -> Result<u8, Complaint>
+    ensures { result ≡ day_read numbers word.now }
 {
-    match read_number(word, 255) {
-        Some(day) => Ok(day as u8),
-        None => Err(Complaint::BadDay),
-    }
+    let day = numbers
+        .read(word, u32::from(u8::MAX))
+        .ok_or(Complaint::BadDay)?;
+    u8::try_from(day).map_err(|_| Complaint::BadDay)
 }
 
-fn read_named(year: &[u8], code: &[u8], day: &[u8]) -> Result<NamedDate, Complaint>
-    ensures { result ≡ named_read year.now code.now day.now }
+fn read_named(
+    year: &[u8],
+    code: &[u8],
+    day: &[u8],
+    numbers: Numbers,
+) -> Result<NamedDate, Complaint>
+    ensures { result ≡ named_read numbers year.now code.now day.now }
 {
-    let year = read_year(year)?;
+    let year = read_year(year, numbers)?;
     let code = read_code(code).ok_or(Complaint::BadCode)?;
-    let day = read_day(day)?;
+    let day = read_day(day, numbers)?;
     Ok(NamedDate { year, code, day })
 }
 
 // date DATE
-fn date_command(arguments: &[u8]) -> Result<Command<'_>, Complaint>
-    ensures { meant result ≡ date_command (words arguments.now) }
+fn date_command<'a, W: Iterator<Item = &'a [u8]>>(mut words: W) -> Result<Command<'a>, Complaint>
+    requires { W.can_next words }
+    ensures { (ws : List (List ℕ)) → Gives W.next_gives words ws → meant result ≡ date_command ws }
 {
-    let Some(date) = only_word(arguments) else {
+    let date = words.next().ok_or(Complaint::DateWords)?;
+    if words.next().is_some() {
         return Err(Complaint::DateWords);
-    };
-    match read_date(date) {
-        Ok(day) => Ok(Command::Date(day)),
-        Err(fault) => Err(Complaint::BadDate(fault)),
     }
+    Ok(Command::Date(read_date(date)?))
 }
 
 // day CALENDAR YEAR CODE DAY
-fn day_command(arguments: &[u8]) -> Result<Command<'_>, Complaint>
-    ensures { meant result ≡ day_command (words arguments.now) }
+fn day_command<'a, W: Iterator<Item = &'a [u8]>>(
+    mut words: W,
+    numbers: Numbers,
+) -> Result<Command<'a>, Complaint>
+    requires { W.can_next words }
+    ensures { (ws : List (List ℕ)) → Gives W.next_gives words ws → meant result ≡ day_command numbers ws }
 {
-    let Some((name, rest)) = next_word(arguments) else {
+    // An iterator has no method that takes the four words at once, and to gather them first is no plainer.
+    let name = words.next().ok_or(Complaint::DayWords)?;
+    let year = words.next().ok_or(Complaint::DayWords)?;
+    let code = words.next().ok_or(Complaint::DayWords)?;
+    let day = words.next().ok_or(Complaint::DayWords)?;
+    if words.next().is_some() {
         return Err(Complaint::DayWords);
-    };
-    let Some((year, rest)) = next_word(rest) else {
-        return Err(Complaint::DayWords);
-    };
-    let Some((code, rest)) = next_word(rest) else {
-        return Err(Complaint::DayWords);
-    };
-    let Some(day) = only_word(rest) else {
-        return Err(Complaint::DayWords);
-    };
-    Ok(Command::Day(name, read_named(year, code, day)?))
+    }
+    Ok(Command::Day(name, read_named(year, code, day, numbers)?))
 }
 
 // year CALENDAR YEAR
-fn year_command(arguments: &[u8]) -> Result<Command<'_>, Complaint>
-    ensures { meant result ≡ year_command (words arguments.now) }
+fn year_command<'a, W: Iterator<Item = &'a [u8]>>(
+    mut words: W,
+    numbers: Numbers,
+) -> Result<Command<'a>, Complaint>
+    requires { W.can_next words }
+    ensures { (ws : List (List ℕ)) → Gives W.next_gives words ws → meant result ≡ year_command numbers ws }
 {
-    let Some((name, rest)) = next_word(arguments) else {
+    let name = words.next().ok_or(Complaint::YearWords)?;
+    let year = words.next().ok_or(Complaint::YearWords)?;
+    if words.next().is_some() {
         return Err(Complaint::YearWords);
-    };
-    let Some(year) = only_word(rest) else {
-        return Err(Complaint::YearWords);
-    };
-    Ok(Command::Year(name, read_year(year)?))
+    }
+    Ok(Command::Year(name, read_year(year, numbers)?))
 }
 
-// The command on a line, whose words stand between blanks: the first says which it is, the others are its arguments.
+impl<'a> Command<'a> {
+    // The command that words make: the first says which it is, the others are its arguments.
+    pub fn from_words<W: Iterator<Item = &'a [u8]>>(
+        mut words: W,
+        numbers: Numbers,
+    ) -> Result<Command<'a>, Complaint>
+        requires { W.can_next words }
+        ensures { (ws : List (List ℕ)) → Gives W.next_gives words ws → meant result ≡ command_of numbers ws }
+    {
+        // The three take different arguments, so closures in a table would be no plainer than this match.
+        match words.next().ok_or(Complaint::Unknown)? {
+            b"date" => date_command(words),
+            b"day" => day_command(words, numbers),
+            b"year" => year_command(words, numbers),
+            _ => Err(Complaint::Unknown),
+        }
+    }
+}
+
+// The command on a line, whose words stand between blanks.
 pub fn read_command(line: &[u8]) -> Result<Command<'_>, Complaint>
     ensures { meant result ≡ command_read line.now }
 {
-    let Some((keyword, arguments)) = next_word(line) else {
-        return Err(Complaint::Unknown);
-    };
-    if same_word(keyword, b"date") {
-        date_command(arguments)
-    } else if same_word(keyword, b"day") {
-        day_command(arguments)
-    } else if same_word(keyword, b"year") {
-        year_command(arguments)
-    } else {
-        Err(Complaint::Unknown)
-    }
+    let words = line
+        .split(|b| matches!(*b, b' ' | b'\t'))
+        .filter(|word| !word.is_empty());
+    Command::from_words(words, Numbers::Digits)
 }

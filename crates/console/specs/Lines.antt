@@ -9,7 +9,8 @@ use Rattle.calendar.specs.declared.sheet.Sheet.{Sheet}
 use Rattle.calendar.specs.Sheets.{Almanac, codes_of, lengths_of}
 use Rattle.calendar.specs.Dates.{DateNamed}
 use Rattle.calendar.specs.Shelves.{almanac_at}
-use Rattle.console.specs.Texts.{code_text, date_text, digits_text, each_said}
+use Rattle.calendar.specs.Printing.{code_text}
+use Rattle.console.specs.Texts.{date_text, digits_text, each_said}
 
 -- the answers are the dates of the day n in the calendars of the shelf, in their order
 pub record Everywhere (shelf : List Almanac) (n : ℕ) (answers : List (Option NamedDate)) : Type 0 where
@@ -23,6 +24,12 @@ calendar_text name date = codes " " ++ (name ++ (codes " " ++ date_text date))
 abbrev pub dates_text : List Almanac → List (Option NamedDate) → List ℕ
 dates_text = each_said (λ a. calendar_text a.name)
 
+-- the text is each calendar's name with the date of the day n there
+pub record DatesText (shelf : List Almanac) (n : ℕ) (text : List ℕ) : Type 0 where
+  pub dates : List (Option NamedDate)
+  pub everywhere : Everywhere shelf n dates
+  pub says : text ≡ dates_text shelf dates
+
 -- the text begins the line of the day n: its Gregorian date of eight digits, its number and its weekday
 pub record DayHead (n : ℕ) (text : List ℕ) : Type 0 where
   pub date : Option (ℕ × ℕ × ℕ)
@@ -35,9 +42,9 @@ pub record DayHead (n : ℕ) (text : List ℕ) : Type 0 where
 pub record DayLine (shelf : List Almanac) (n : ℕ) (text : List ℕ) : Type 0 where
   pub front : List ℕ
   pub begins : DayHead n front
-  pub dates : List (Option NamedDate)
-  pub everywhere : Everywhere shelf n dates
-  pub says : text ≡ front ++ dates_text shelf dates
+  pub rest : List ℕ
+  pub goes_on : DatesText shelf n rest
+  pub says : text ≡ front ++ rest
 
 -- a month's code and length
 abbrev pub month_text : MonthCode → ℕ → List ℕ

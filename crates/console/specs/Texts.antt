@@ -1,23 +1,11 @@
--- How numbers, month codes and dates are written in an answer.
-use Rattle.std.specs.Prelude.{ℕ, ◌-◌, cond, List, [], ◌∷◌, ◌++◌, length, replicate, Some, None, codes, decimal, Option}
-use Rattle.calendar.specs.declared.sheet.MonthCode.{MonthCode}
+-- How dates are written in an answer.
+use Rattle.std.specs.Prelude.{ℕ, List, [], ◌∷◌, ◌++◌, Some, None, codes, Option}
 use Rattle.calendar.specs.declared.dates.NamedDate.{NamedDate}
-
--- n zeros
-abbrev pub zeros : ℕ → List ℕ
-zeros n = replicate n 48
-
--- a number in decimal digits, with zeros before them up to the width
-abbrev pub padded : ℕ → ℕ → List ℕ
-padded width n = zeros (width - length (decimal n)) ++ decimal n
-
--- a month code: two digits, and L for a leap month
-abbrev pub code_text : MonthCode → List ℕ
-code_text c = padded 2 c.number ++ cond c.leap (codes "L") []
+use Rattle.calendar.specs.Printing.{padded, named_text}
 
 -- year, month code and day, or none
 abbrev pub date_text : Option NamedDate → List ℕ
-date_text (Some t) = padded 4 t.year ++ (codes "-" ++ (code_text t.code ++ (codes "-" ++ padded 2 t.day)))
+date_text (Some t) = named_text t
 date_text None = codes "none"
 
 -- the eight digits of a Gregorian date, or none

@@ -3,6 +3,5 @@
 
 mod answers;
 mod lines;
-mod texts;
 
-pub use answers::answer;
+pub use answers::{AnswerError, answer, answer_command};

@@ -1,58 +1,52 @@
 // The line of a day, and the line of a year.
 ghost use Rattle.std.specs.Prelude.{◌≡◌, IfOk, string_bytes};
-ghost use Rattle.console.specs.Lines.{Everywhere, calendar_text, dates_text, DayHead, DayLine, month_text, months_text, year_line};
+ghost use Rattle.console.specs.Texts.{digits_text};
+ghost use Rattle.console.specs.Lines.{calendar_text, DatesText, DayHead, DayLine, months_text, year_line};
 
-use crate::texts::{code_text, date_text, digits_text};
 use calendar::{MonthCode, NamedDate, Sheet, Shelf, date_named};
 use days::gregorian::date_of_day;
 use days::weekday::Weekday;
 use std::alloc::{AllocError, Global};
 
-// The date of a day in each calendar of the shelf, in their order.
-fn dates_of<S: Shelf>(
-    heap: Global,
-    shelf: &S,
-    day: u32,
-) -> Result<Vec<Option<NamedDate>>, AllocError>
-    ensures { IfOk result (λ v. Everywhere (S.Shelf.held shelf.now) day v.items) }
-{
-    let mut dates = Vec::new(heap);
-    for place in 0..shelf.count() {
-        dates.push(date_named(shelf, place, day))?;
-    }
-    Ok(dates)
-}
-
-// A calendar's name, and the date there.
+// A calendar's name, and the date there, or none.
 fn calendar_text(heap: Global, name: &str, date: Option<NamedDate>) -> Result<String, AllocError>
     ensures { IfOk result (λ t. string_bytes t ≡ calendar_text name.now date) }
 {
-    let date = date_text(heap, date)?;
-    format!(in heap; " {name} {date}")
+    match date {
+        Some(date) => format!(in heap; " {name} {date}"),
+        None => format!(in heap; " {name} none"),
+    }
 }
 
-// The names of the shelf's calendars, each with its date.
-fn dates_text<S: Shelf>(
-    heap: Global,
-    shelf: &S,
-    dates: &[Option<NamedDate>],
-) -> Result<String, AllocError>
-    ensures { IfOk result (λ t. string_bytes t ≡ dates_text (S.Shelf.held shelf.now) dates.now) }
+// The names of the shelf's calendars, each with the date of the day there.
+fn dates_text<S: Shelf>(heap: Global, shelf: &S, day: u32) -> Result<String, AllocError>
+    ensures { IfOk result (λ t. DatesText (S.Shelf.held shelf.now) day (string_bytes t)) }
 {
     let mut text = String::new(heap);
-    for place in 0..shelf.count().min(dates.len()) {
-        let name = shelf.name(place);
-        text.push_str(calendar_text(heap, name, dates[place])?.as_str())?;
+    // A shelf is a calendar beside a shorter shelf, so its places are numbers and no slice.
+    for place in 0..shelf.count() {
+        let date = date_named(shelf, place, day);
+        text.push_str(calendar_text(heap, shelf.name(place), date)?.as_str())?;
     }
     Ok(text)
+}
+
+// The eight digits of a Gregorian date, or none.
+fn digits_text(heap: Global, date: Option<(u32, u8, u8)>) -> Result<String, AllocError>
+    ensures { IfOk result (λ t. string_bytes t ≡ digits_text date) }
+{
+    match date {
+        Some((year, month, day)) => format!(in heap; "{year:04}{month:02}{day:02}"),
+        None => format!(in heap; "none"),
+    }
 }
 
 // How the line of a day begins: its eight digits, its number, its weekday.
 fn day_head(heap: Global, day: u32) -> Result<String, AllocError>
     ensures { IfOk result (λ t. DayHead day (string_bytes t)) }
 {
-    let weekday = Weekday::of(day).letters();
     let date = digits_text(heap, date_of_day(day))?;
+    let weekday = Weekday::of(day);
     format!(in heap; "{date} {day} {weekday}")
 }
 
@@ -61,17 +55,8 @@ pub fn day_line<S: Shelf>(heap: Global, shelf: &S, day: u32) -> Result<String, A
     ensures { IfOk result (λ t. DayLine (S.Shelf.held shelf.now) day (string_bytes t)) }
 {
     let head = day_head(heap, day)?;
-    let dates = dates_of(heap, shelf, day)?;
-    let dates = dates_text(heap, shelf, dates.as_slice())?;
+    let dates = dates_text(heap, shelf, day)?;
     format!(in heap; "{head}{dates}")
-}
-
-// A month's code and length.
-fn month_text(heap: Global, code: MonthCode, days: u8) -> Result<String, AllocError>
-    ensures { IfOk result (λ t. string_bytes t ≡ month_text code days) }
-{
-    let code = code_text(heap, code)?;
-    format!(in heap; " {code}:{days}")
 }
 
 // The months of a year, each with its length.
@@ -79,8 +64,8 @@ fn months_text(heap: Global, codes: &[MonthCode], lengths: &[u8]) -> Result<Stri
     ensures { IfOk result (λ t. string_bytes t ≡ months_text codes.now lengths.now) }
 {
     let mut text = String::new(heap);
-    for i in 0..codes.len().min(lengths.len()) {
-        text.push_str(month_text(heap, codes[i], lengths[i])?.as_str())?;
+    for (code, days) in codes.iter().zip(lengths) {
+        write!(text, " {code}:{days}")?;
     }
     Ok(text)
 }
@@ -89,8 +74,7 @@ fn months_text(heap: Global, codes: &[MonthCode], lengths: &[u8]) -> Result<Stri
 pub fn year_line(heap: Global, name: &str, year: u32, sheet: &Sheet) -> Result<String, AllocError>
     ensures { IfOk result (λ t. string_bytes t ≡ year_line name.now year sheet.now) }
 {
-    let places = usize::from(sheet.months).min(13);
-    let months = months_text(heap, &sheet.codes[0..places], &sheet.lengths[0..places])?;
+    let months = months_text(heap, sheet.month_codes(), sheet.month_lengths())?;
     let first = sheet.first;
     format!(in heap; "{name} {year} first {first} months{months}")
 }

@@ -1,10 +1,10 @@
-use Rattle.std.proofs.Common.{◌≡◌, ℕ, arith}
+use Rattle.console.proofs.Found.{says_day}
 use Rattle.console.proofs.answers.look_up.Goals as goal
 
-pub returns-in-None : goal.returns-in-None
-returns-in-None g c =
+pub returns-in_ok-place-in-Day : goal.returns-in_ok-place-in-Day
+returns-in_ok-place-in-Day g c =
     rw c.in-Day.is (
-      c.in-Some.place,
-      c.in-Some.ensures,
-      λ n m. let e = c.in-None.ensures.only n m in let z : ◌≡◌ {A = ℕ} 0 1 = cc in omega arith,
+      c.in_ok-place-in-Day.place,
+      rw c.in_ok-place-in-Day.ensures.ok_part at c.find.ensures,
+      says_day _ _ c.day_named.result c.map.result c.day_named.ensures c.map.ensures.cases,
     )
