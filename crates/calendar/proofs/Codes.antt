@@ -2,7 +2,6 @@
 use Rattle.std.proofs.Common.{◌≡◌, ℕ, zero, suc, ◌+◌, ◌-◌, ◌<◌, ◌≤◌, true, false, eqb, ltb, List, [], ◌∷◌, length, get_or, position, Some, None, refl, sym, ap, ◌∙◌, ⊎_elim, le_of_suc-le-suc, not-suc-le-zero, arith, length-take, length-take-le}
 use Rattle.std.proofs.Math.Bool.{beq}
 use Rattle.std.proofs.lemmas.Bool.{cond-true, cond-false, cases_Bool, cases_lt, cases_order, eqb-true, eq-eqb, lt-ltb, and_parts, and_from}
-use Rattle.std.proofs.lemmas.List.{get_or-take}
 use Rattle.std.proofs.lemmas.List.Quantifiers.{position-Some}
 use Rattle.std.proofs.lemmas.List.Sums.{fails_before_first}
 use Rattle.std.specs.List.{position_or_len}
@@ -12,14 +11,6 @@ use Rattle.calendar.specs.declared.sheet.Sheet.{Sheet}
 use Rattle.calendar.specs.Sheets.{Almanac, Answered, codes_of, code_at, no_code}
 use Rattle.calendar.specs.Laws.{Lawful, plain_numbers, counted}
 use Rattle.calendar.specs.Dates.{is_same, BearsCode, CodeFound}
-
--- a month of the year bears the code that stands at its place
-pub code_here : (s : Sheet) (p : ℕ) → 1 ≤ p → p ≤ s.months → code_at s p ≡ get_or s.codes (p - 1) no_code
-code_here s p f t = get_or-take s.months s.codes (p - 1) no_code (omega arith)
-
--- the same of the month after i others
-pub code_after : (s : Sheet) (i : ℕ) → i < s.months → code_at s (i + 1) ≡ get_or s.codes i no_code
-code_after s i h = let e : i + 1 - 1 ≡ i = omega arith in code_here s (i + 1) (omega arith) (omega arith) ∙ rw e
 
 -- a code is its number and its mark
 pub same_code : (c d : MonthCode) → c.number ≡ d.number → c.leap ≡ d.leap → c ≡ d

@@ -49,10 +49,6 @@ module _ (a : Almanac) (n : ℕ) where
         only = λ z q e t. let u = one_date a l n y p d z q e s t in cc;
       }
 
-  -- where the guess is not answered, the day has no date
-  pub dated_closed : (y : ℕ) → Open a n y → (a.sheet y).months ≤ 0 → Dated a n None
-  dated_closed y o h = dated_none (λ z p d s. let f = o z p d s in let w : ⊥ = omega arith in w)
-
 module _ (a : Almanac) (l : Lawful a) (n y k : ℕ) (f : Answered a y) where
   module _ (s : Seen (a.sheet y) n (Earlier k)) where
     -- the day's year is no nearer than the days between hold years

@@ -66,10 +66,6 @@ module _ (a : Almanac) where
             (ap (λ (c : MonthCode). Some (dated t.year c t.day)) o.bears.same);
       }
 
-  pub date_named_none : (n : ℕ) → Dated a n None → DateNamed a n None
-  date_named_none n q =
-      record { right = λ t e. cc; only = λ t m. let o = q.only t.year m.place t.day m.stands in cc }
-
   -- where a code stands on the sheet of the date's year
   pub on_sheet : Sound a → (t : NamedDate) (s : Sheet) (o : Option ℕ) → s ≡ a.sheet t.year → (s.months ≤ 13 → CodeFound s t.code o) → CodeFound (a.sheet t.year) t.code o
   on_sheet known t s o e f = subst (λ (x : Sheet). CodeFound x t.code o) e (f (let m = known.months t.year in rw e m))

@@ -1,5 +1,5 @@
 -- What a hole of a format with zeros before the number, as `{:02}`, writes.
-use Rattle.std.proofs.Common.{◌≡◌, ℕ, ◌-◌, ◌^◌, ◌++◌, false, [], length, replicate, ap, ◌∙◌, arith, append-nil}
+use Rattle.std.proofs.Common.{◌≡◌, ℕ, ◌-◌, ◌^◌, ◌++◌, false, [], length, replicate, ap, arith, append-nil}
 use Rattle.std.specs.Fmt.{decimal, char_count, padded_integral, format_spec}
 use Rattle.calendar.specs.Printing.{padded}
 

@@ -1,7 +1,8 @@
 -- From computed tests to the laws: an almanac whose years pass the tests, and that is silent outside them, is lawful.
+-- The library has no laws of calendars, and none of the tests by which they are computed.
 use Rattle.std.proofs.Common.{◌≡◌, ℕ, zero, suc, ◌+◌, ◌-◌, ◌^◌, ◌<◌, ◌≤◌, Bool, true, false, not, ◌&&◌, ◌||◌, eqb, ltb, leb, ◌⊎◌, List, [], ◌∷◌, length, get_or, drop, replicate, sym, refl, ap, ◌∙◌, subst, inl, inr, ⊎_elim, le_of_suc-le-suc, not-suc-le-zero, add-one, arith, length-drop, length-take-le}
 use Rattle.std.specs.Str.{bytes_eq}
-use Rattle.std.specs.List.{AllByRecursion}
+use Rattle.std.specs.List.{AllByRecursion, list_all}
 use Rattle.std.proofs.ByRecursion.{All-get_or}
 use Rattle.std.proofs.lemmas.Slice.Eq.{bytes_eq-Decides}
 use Rattle.std.proofs.lemmas.Bool.{leb-true, ltb-true, eqb-true, and_parts, or_cases, cases_lt, both_ways, not-true}
@@ -23,18 +24,14 @@ at_every f (suc n) lo t y h k =
     (λ (g : y ≤ lo). let e : lo ≡ y = omega arith in subst (λ (m : ℕ). f m ≡ true) e parts.0)
     (cases_lt lo y)
 
--- the test f passes at each element
-abbrev pub all : {X : Type 0} → (X → Bool) → List X → Bool
-all f [] = true
-all f (x ∷ xs) = f x && all f xs
-
-pub each : {X : Type 0} (f : X → Bool) (P : X → Type 0) → ((x : X) → f x ≡ true → P x) → (xs : List X) → all f xs ≡ true → AllByRecursion P xs
+-- what a test that passes at each element says of each
+pub each : {X : Type 0} (f : X → Bool) (P : X → Type 0) → ((x : X) → f x ≡ true → P x) → (xs : List X) → list_all f xs ≡ true → AllByRecursion P xs
 each f P says [] t = tt
-each f P says (x ∷ xs) t = let parts = and_parts (f x) (all f xs) t in (says x parts.0, each f P says xs parts.1)
+each f P says (x ∷ xs) t = let parts = and_parts (f x) (list_all f xs) t in (says x parts.0, each f P says xs parts.1)
 
 -- all tests of a list pass
 abbrev pub passed : List Bool → Bool
-passed ts = all (λ b. b) ts
+passed ts = list_all (λ b. b) ts
 
 pub each_passed : (ts : List Bool) → passed ts ≡ true → AllByRecursion (λ b. b ≡ true) ts
 each_passed ts t = each (λ b. b) (λ b. b ≡ true) (λ b e. e) ts t
@@ -124,9 +121,9 @@ sheet_tests leaps top s =
     (eqb s.months 12 || eqb s.months 13)
     ∷ eqb (length s.codes) 13
     ∷ eqb (length s.lengths) 13
-    ∷ all unused (drop s.months s.codes)
-    ∷ all (λ n. eqb n 0) (drop s.months s.lengths)
-    ∷ all month_long (lengths_of s)
+    ∷ list_all unused (drop s.months s.codes)
+    ∷ list_all (λ n. eqb n 0) (drop s.months s.lengths)
+    ∷ list_all month_long (lengths_of s)
     ∷ leb 350 (days_of s)
     ∷ leb (days_of s) 385
     ∷ leb 693000 s.first

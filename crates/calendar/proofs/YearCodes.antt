@@ -1,22 +1,20 @@
--- Codes in turn, one more of them, and one among them.
-use Rattle.std.proofs.Common.{◌≡◌, ℕ, zero, suc, ◌+◌, ◌-◌, ◌<◌, ◌≤◌, List, [], ◌∷◌, ◌++◌, map, length, take, drop, set, replicate, sym, refl, ap, ◌∙◌, arith, length-drop, length-take-le}
-use Rattle.std.proofs.lemmas.List.{map-append, length-map, length-append, length-replicate, length_push, append_assoc, append-nil, drop_all, take_all, replicate-append-replicate, take-append-le, drop-append-le}
+-- Codes in turn: the first of them, and one among them.
+use Rattle.std.proofs.Common.{◌≡◌, ℕ, zero, suc, ◌+◌, ◌-◌, ◌<◌, ◌≤◌, List, [], ◌∷◌, ◌++◌, map, length, take, drop, set, replicate, sym, refl, ap, ◌∙◌, arith, length-drop, length-take-le, not-suc-le-zero, le_of_suc-le-suc}
+use Rattle.std.proofs.lemmas.List.{take-map, length-map, length-append, length-replicate, length_push, append_assoc, append-nil, drop_all, take_all, replicate-append-replicate, take-append-le, drop-append-le}
 use Rattle.std.proofs.Math.Seq.{drop-append_seam, take-append_seam}
-use borrow.Rule.Slice.PartMut.{put_mid, post_of}
+use borrow.Rule.Slice.PartMut.{put_mid}
 use Rattle.std.specs.List.{insert}
 use Rattle.short_lists.specs.Places.{places}
+use Rattle.calendar.specs.declared.sheet.MonthCode.{MonthCode}
 use Rattle.calendar.specs.Laws.{counted}
 use Rattle.calendar.specs.Codes.{plain_codes}
-use Rattle.calendar.specs.Sheets.{plain_code}
+use Rattle.calendar.specs.Sheets.{plain_code, no_code}
 
-counted_suc : (k n : ℕ) → counted k (suc n) ≡ counted k n ++ (k + n) ∷ []
-counted_suc k zero = ap (λ i. i ∷ []) (let e : k ≡ k + 0 = omega arith in e)
-counted_suc k (suc n) = ap (λ l. k ∷ l) (counted_suc (suc k) n) ∙ ap (λ i. k ∷ (counted (suc k) n ++ i ∷ [])) (let e : suc k + n ≡ k + suc n = omega arith in e)
-
-pub plain_codes_push : (n : ℕ) → plain_codes 1 (n + 1) ≡ plain_codes 1 n ++ plain_code (n + 1) ∷ []
-plain_codes_push n =
-    let e : n + 1 ≡ suc n = omega arith in
-    rw e (ap (map plain_code) (counted_suc 1 n) ∙ map-append plain_code (counted 1 n) ((1 + n) ∷ []) ∙ ap (λ i. plain_codes 1 n ++ plain_code i ∷ []) (let f : 1 + n ≡ suc n = omega arith in f))
+-- fewer in turn are the first of more
+take-counted : (k n m : ℕ) → n ≤ m → take n (counted k m) ≡ counted k n
+take-counted k zero m h = refl
+take-counted k (suc n) zero h = absurd (not-suc-le-zero h)
+take-counted k (suc n) (suc m) h = ap (λ l. k ∷ l) (take-counted (suc k) n m (le_of_suc-le-suc h))
 
 length-counted : (k n : ℕ) → length (counted k n) ≡ n
 length-counted k zero = refl
@@ -24,6 +22,22 @@ length-counted k (suc n) = ap suc (length-counted (suc k) n)
 
 pub length-plain_codes : (k n : ℕ) → length (plain_codes k n) ≡ n
 length-plain_codes k n = length-map (counted k n) plain_code ∙ length-counted k n
+
+-- what is written from place i on in an array
+put_rest : {X : Type 0} (array new : List X) (i : ℕ) → length array ≡ 13 → put_mid i (13 - i) array new ≡ take i array ++ new
+put_rest array new i long =
+    ap (λ l. take i array ++ (new ++ l)) (drop_all (13 - i) (drop i array) (omega (arith, length-drop i array, long)))
+    ∙ ap (λ l. take i array ++ l) (append-nil new)
+
+-- the first n of thirteen plain codes, and blanks behind
+pub plain_first : (n : ℕ) (new : List MonthCode) → n ≤ 13 → new ≡ replicate (length (take (13 - n) (drop n (plain_codes 1 13)))) no_code →
+    put_mid n (13 - n) (plain_codes 1 13) new ≡ places 13 no_code (plain_codes 1 n)
+plain_first n new h e =
+    let first : take n (plain_codes 1 13) ≡ plain_codes 1 n = take-map plain_code n (counted 1 13) ∙ ap (map plain_code) (take-counted 1 n 13 h) in
+    let size : length (take (13 - n) (drop n (plain_codes 1 13))) ≡ 13 - length (plain_codes 1 n) =
+    omega (arith, length-take-le (13 - n) (drop n (plain_codes 1 13)) (omega (arith, length-drop n (plain_codes 1 13))), length-plain_codes 1 n) in
+    put_rest (plain_codes 1 13) new n refl ∙ ap (λ l. l ++ new) first
+    ∙ ap (λ l. plain_codes 1 n ++ l) (e ∙ ap (λ k. replicate k no_code) size)
 
 -- rotated by one, the last element of a list is its first
 rotated : {X : Type 0} (xs : List X) (x : X) → drop (length (xs ++ x ∷ []) - 1) (xs ++ x ∷ []) ++ take (length (xs ++ x ∷ []) - 1) (xs ++ x ∷ []) ≡ x ∷ xs
@@ -60,9 +74,6 @@ module _ {X : Type 0} (blank x : X) (xs : List X) (i : ℕ) (within : i ≤ leng
   rotates : part ≡ rest ++ blank ∷ []
   rotates = take_all (13 - i) (drop i array) (omega (arith, length-drop i array, long)) ∙ behind
 
-  nothing_after : post_of i (13 - i) array ≡ []
-  nothing_after = drop_all (13 - i) (drop i array) (omega (arith, length-drop i array, long))
-
   longer : length (insert xs i x) ≡ length xs + 1
   longer = omega (arith, length-append (take i xs) (x ∷ drop i xs), length-drop i xs, length-take-le i xs within)
 
@@ -75,7 +86,7 @@ module _ {X : Type 0} (blank x : X) (xs : List X) (i : ℕ) (within : i ≤ leng
       put_mid i (13 - i) array (set new 0 x) ≡ places 13 blank (insert xs i x)
   inserted new e =
       let r : new ≡ blank ∷ rest = e ∙ ap (λ d. drop (length d - 1) d ++ take (length d - 1) d) rotates ∙ rotated rest blank in
-      ap (λ l. take i array ++ (set new 0 x ++ l)) nothing_after
-      ∙ ap (λ l. take i array ++ l) (append-nil (set new 0 x) ∙ ap (λ (l : List X). set l 0 x) r)
+      put_rest array (set new 0 x) i long
+      ∙ ap (λ l. take i array ++ set l 0 x) r
       ∙ ap (λ l. l ++ x ∷ rest) (take-append-le i xs (replicate (13 - length xs) blank) within)
       ∙ sym after

@@ -1,4 +1,5 @@
 -- What the laws give of a lawful calendar's years: how far apart they begin, and that a day lies in one of them only.
+-- The library has no laws of calendars.
 use Rattle.std.proofs.Common.{◌≡◌, ℕ, zero, suc, ◌+◌, ◌-◌, ◌*◌, ◌<◌, ◌≤◌, ap, subst, ⊎_elim, arith, length-take}
 use Rattle.std.proofs.lemmas.Bool.{cases_lt}
 use Rattle.days.specs.Months.{Falls}

@@ -12,10 +12,8 @@ fn plain_codes(last: u8) -> [MonthCode; 13]
     requires { last ≤ 13 }
     ensures { result ≡ places 13 no_code (plain_codes 1 last) }
 {
-    let mut codes = [MonthCode::blank(); 13];
-    for before in 0..last {
-        codes[usize::from(before)] = MonthCode::plain(before + 1);
-    }
+    let mut codes = [1, 2, 3, 4, 5, 6, 7, 8, 9, 10, 11, 12, 13].map(MonthCode::plain);
+    codes[usize::from(last)..].fill(MonthCode::blank());
     codes
 }
 

@@ -50,6 +50,14 @@ pub struct Sheet {
     pub lengths: [u8; 13],
 }
 
+// The first places of a sheet's array, as many as there are months.
+fn first_places<T>(all: &[T; 13], months: u8) -> &[T]
+    ensures value { result.now ≡ take months all.now }
+    ensures most { length result.now ≤ 13 }
+{
+    &all[..usize::from(months).min(13)]
+}
+
 impl Sheet {
     // The sheet of a year that a calendar does not answer.
     pub fn empty() -> Sheet
@@ -68,8 +76,7 @@ impl Sheet {
         ensures value { result.now ≡ codes_of self.now }
         ensures most { length result.now ≤ 13 }
     {
-        let places = usize::from(self.months).min(13);
-        &self.codes[0..places]
+        first_places(&self.codes, self.months)
     }
 
     // The lengths of its months.
@@ -77,8 +84,7 @@ impl Sheet {
         ensures value { result.now ≡ lengths_of self.now }
         ensures most { length result.now ≤ 13 }
     {
-        let places = usize::from(self.months).min(13);
-        &self.lengths[0..places]
+        first_places(&self.lengths, self.months)
     }
 
     // How many months stand before the first that bears the code.

@@ -5,7 +5,7 @@ ghost use Rattle.calendars.specs.Laws.{coptic_laws};
 
 use calendar::{Calendar, Sheet, Sheets, date_from, year_codes};
 
-// The years that lie wholly in the span.
+// The years that lie wholly in the span. Each calendar says its own: a type for a range would be no plainer.
 const LOWEST: u32 = 1615;
 
 const HIGHEST: u32 = 1917;

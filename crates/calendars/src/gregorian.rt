@@ -6,7 +6,7 @@ ghost use Rattle.calendars.specs.Laws.{gregorian_laws};
 use calendar::{Calendar, Sheet, Sheets, date_from, year_codes};
 use days::gregorian::{month_lengths, new_year};
 
-// The years that lie wholly in the span.
+// The years that lie wholly in the span. Each calendar says its own: a type for a range would be no plainer.
 const LOWEST: u32 = 1899;
 
 const HIGHEST: u32 = 2201;

@@ -5,7 +5,7 @@ ghost use Rattle.calendars.specs.Laws.{islamic_laws};
 
 use calendar::{Calendar, Sheet, Sheets, date_from, year_codes};
 
-// The years that lie wholly in the span.
+// The years that lie wholly in the span. Each calendar says its own: a type for a range would be no plainer.
 const LOWEST: u32 = 1316;
 
 const HIGHEST: u32 = 1628;
@@ -16,6 +16,7 @@ const MIDDLE: u32 = 1472;
 #[derive(Clone, Copy)]
 pub struct IslamicCivil;
 
+// A rule of its own, which the Hebrew one is like in shape only.
 fn is_leap(year: u32) -> bool
     requires { year ≤ 10000 }
     ensures { result ≡ leap_year year }

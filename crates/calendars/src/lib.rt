@@ -1,9 +1,9 @@
 // The calendars: Gregorian, Coptic, Islamic civil and Hebrew.
 #![tactic(auto)]
 
-// Each calendar answers a year by one test of its own range: a function for all of them would take the range, the year and
-// the reckoning as a closure, and need more clauses than the test has words. The one line of each
-// date question stays for the same reason, and so do the bounds of each reckoning, which counts years of its own.
+// Each calendar has a range of years of its own, answers a year by one test of it, and looks for a date from a year in
+// its middle: a function for all of them would take the range and the reckoning as a closure, and need more clauses
+// than the test has words. The bounds of each reckoning stay too, since each counts years of its own.
 pub mod coptic;
 pub mod gregorian;
 pub mod hebrew;

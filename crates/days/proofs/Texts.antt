@@ -1,6 +1,6 @@
 -- Eight digits and the date that they write: each gives the other, and no other.
-use Rattle.std.proofs.Common.{◌≡◌, ℕ, zero, suc, ◌+◌, ◌-◌, ◌*◌, ◌/◌, ◌%◌, ◌<◌, ◌≤◌, Bool, true, false, cond, eqb, List, [], ◌∷◌, ◌++◌, map, length, get_or, take, drop, set, Some, None, Ok, Err, Option, Result, sym, refl, ap, ◌∙◌, ⊎_elim, arith, lit<}
-use Rattle.std.proofs.lemmas.List.{drop_more, drop_all, get_or-map, take_more_set, map_more}
+use Rattle.std.proofs.Common.{◌≡◌, ℕ, zero, suc, ◌+◌, ◌-◌, ◌*◌, ◌/◌, ◌%◌, ◌<◌, ◌≤◌, Bool, true, false, cond, eqb, List, [], ◌∷◌, map, length, get_or, drop, Some, None, Ok, Err, Option, Result, sym, refl, ap, ◌∙◌, ⊎_elim, arith, lit<}
+use Rattle.std.proofs.lemmas.List.{drop_more, drop_all, get_or-map}
 use Rattle.std.proofs.lemmas.Bool.{cases_Bool, cond-true, cond-false, eqb-true, eq-eqb}
 use Rattle.std.proofs.lemmas.Bool.Decides.{nat_tests}
 use Rattle.std.specs.Option.{ok_or}
@@ -111,12 +111,6 @@ valued bs ds e =
       month = omega (arith, at 4 (lit< tt), at 5 (lit< tt));
       day = omega (arith, at 6 (lit< tt), at 7 (lit< tt));
     }
-
--- one more value
-pub values_more : (bs ds : List ℕ) (i : ℕ) → i < length bs → i < length ds → take i ds ≡ map (λ b. b - 48) (take i bs) →
-    take (i + 1) (set ds i (get_or bs i 0 - 48)) ≡ map (λ b. b - 48) (take (i + 1) bs)
-values_more bs ds i h k e =
-    take_more_set ds i (get_or bs i 0 - 48) k ∙ ap (λ l. l ++ (get_or bs i 0 - 48) ∷ []) e ∙ sym (map_more (λ b. b - 48) bs i 0 h)
 
 -- the day that eight digits name
 pub day_read : (bs : List ℕ) (y m d : ℕ) → Eight bs → y ≡ year_of bs → m ≡ month_of bs → d ≡ day_of bs → ok_or (day_of_date y m d) NoSuchDay ≡ date_read bs

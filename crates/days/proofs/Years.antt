@@ -1,17 +1,12 @@
 -- The years of the Gregorian calendar: each begins where the one before it ends, and a date is a day of one year.
-use Rattle.std.proofs.Common.{◌≡◌, ℕ, ◌+◌, ◌-◌, ◌<◌, ◌≤◌, true, false, List, Some, None, Option, sym, refl, ap, ◌∙◌, subst, ⊎_elim, arith, rules}
+use Rattle.std.proofs.Common.{◌≡◌, ℕ, ◌+◌, ◌-◌, ◌<◌, ◌≤◌, true, false, Some, None, sym, ap, ◌∙◌, subst, ⊎_elim, arith, rules}
 use Rattle.std.specs.List.{AllByRecursion}
 use Rattle.std.proofs.ByRecursion.{All-get_or}
 use Rattle.std.proofs.lemmas.Bool.{cases_lt, cases_Bool, cond-true, cond-false, and_parts, leb-true}
 use Rattle.std.proofs.lemmas.Bool.Decides.{nat_tests}
-use Rattle.days.specs.Months.{total, Has, Falls, Counted}
+use Rattle.days.specs.Months.{total, Has, Falls}
 use Rattle.days.specs.Gregorian.{new_year, month_lengths, real, day_number, day_of_date, InYear, DateOf}
 use Rattle.days.proofs.Totals.{falls_within, falls_once}
-
--- an answer that is never some is none
-none_unless : {A : Type 0} (o : Option A) → ((x : A) → o ≡ Some x → ⊥) → None ≡ o
-none_unless (Some x) h = absurd (h x refl)
-none_unless None h = refl
 
 -- a year is over when its months are
 pub next_year : (y : ℕ) → 1 ≤ y → new_year (y + 1) ≡ new_year y + total (month_lengths y)
@@ -37,16 +32,6 @@ year_once n y z f g =
     (λ (m : y ≤ z). omega arith)
     (cases_lt z y))
     (cases_lt y z)
-
--- the days of the calendar's years
-pub year_bounds : (n y : ℕ) → InYear n y → (1 ≤ n) × (n ≤ 3652059)
-year_bounds n y h =
-    let f = h.year_from in
-    let b = h.begun in
-    let t = h.year_to in
-    let o = h.not_over in
-    let l = new_year_later y 10000 (omega arith) in
-    (omega arith, omega arith)
 
 -- a real date: its year is one of the calendar, and the year has its day
 record Real (y m d : ℕ) : Type 0 where
@@ -137,11 +122,6 @@ date_of_none n h = record {
   right = λ y m d s. cc;
   only = λ y m d s. absurd (h y (dated y m d n s).year);
 }
-
--- a date that the year lacks has no day
-pub no_day : (lengths : List ℕ) (y m d : ℕ) → lengths ≡ month_lengths y → Counted lengths m d None → None ≡ day_of_date y m d
-no_day lengths y m d e c =
-    none_unless _ (λ n s. let t = c.only (n - new_year y) (simp e (dated y m d n s).falls) in cc)
 
 -- no month has more than 31 days
 months_most : (y : ℕ) → AllByRecursion (λ n. n ≤ 31) (month_lengths y)

@@ -36,13 +36,10 @@ fn eight_digits(bytes: &[u8]) -> Result<[u8; 8], DateFault>
 pub fn read_date(bytes: &[u8]) -> Result<u32, DateFault>
     ensures { result ≡ date_read bytes.now }
 {
-    let d = eight_digits(bytes)?;
-    let year = 1000 * u32::from(d[0])
-        + 100 * u32::from(d[1])
-        + 10 * u32::from(d[2])
-        + u32::from(d[3]);
-    let month = 10 * d[4] + d[5];
-    let day = 10 * d[6] + d[7];
+    let [y1, y2, y3, y4, m1, m2, d1, d2] = eight_digits(bytes)?;
+    let year = 1000 * u32::from(y1) + 100 * u32::from(y2) + 10 * u32::from(y3) + u32::from(y4);
+    let month = 10 * m1 + m2;
+    let day = 10 * d1 + d2;
     day_of_date(year, month, day).ok_or(DateFault::NoSuchDay)
 }
 
@@ -58,15 +55,16 @@ fn date_text(year: u32, month: u32, day: u32) -> [u8; 8]
     ensures { result ≡ date_text year month day }
 {
     [
-        last_digit(year / 1000),
-        last_digit(year / 100),
-        last_digit(year / 10),
-        last_digit(year),
-        last_digit(month / 10),
-        last_digit(month),
-        last_digit(day / 10),
-        last_digit(day),
+        year / 1000,
+        year / 100,
+        year / 10,
+        year,
+        month / 10,
+        month,
+        day / 10,
+        day,
     ]
+    .map(last_digit)
 }
 
 // The eight digits of a day of the range, the way back from `read_date`.

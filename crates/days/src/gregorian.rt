@@ -1,13 +1,10 @@
 // The Gregorian calendar, carried back to year 1 and on to year 9999.
-ghost use Rattle.std.specs.Prelude.{◌≡◌, ◌≤◌};
+ghost use Rattle.std.specs.Prelude.{◌≡◌, ◌≤◌, ℕ, true, is_some, IfSome};
 ghost use Rattle.days.specs.Gregorian.{leap_year, month_lengths, new_year, day_of_date, InYear, DateOf};
 
 use crate::months::{days_past, place_after};
 
 const LAST_YEAR: u32 = 9999;
-
-// The last day of that year.
-const LAST_DAY: u32 = 3_652_059;
 
 // Whether a year has a 29 February.
 pub fn is_leap(year: u32) -> bool
@@ -44,27 +41,25 @@ pub fn day_of_date(year: u32, month: u8, day: u8) -> Option<u32>
     Some(new_year(year) + past)
 }
 
-// The year that a day lies in.
-fn year_of(day: u32) -> u32
-    requires { (1 ≤ day) × (day ≤ 3652059) }
-    ensures { InYear day result }
+// The year that a day lies in, or none where the calendar has no such year.
+fn year_of(day: u32) -> Option<u32>
+    requires { 1 ≤ day }
+    ensures some { IfSome result (InYear day) }
+    ensures only { (y : ℕ) → InYear day y → is_some result ≡ true }
 {
     // No year has more than 366 days, so this is never too late, and at most some twenty years too early.
-    let mut year = day / 366 + 1;
-    while new_year(year + 1) <= day {
-        year += 1;
-    }
-    year
+    let early = day / 366 + 1;
+    (early..LAST_YEAR + 1).find(|&year| day < new_year(year + 1))
 }
 
 // The date of a day, the way back from `day_of_date`, or none where no date has that day.
 pub fn date_of_day(day: u32) -> Option<(u32, u8, u8)>
     ensures { DateOf day result }
 {
-    if !(1..=LAST_DAY).contains(&day) {
+    if day == 0 {
         return None;
     }
-    let year = year_of(day);
+    let year = year_of(day)?;
     let (month, day) = place_after(&month_lengths(year), day - new_year(year))?;
     Some((year, month, day))
 }

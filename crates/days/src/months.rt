@@ -1,4 +1,5 @@
-// The months of a year, by their lengths.
+// The months of a year, by their lengths. Each function asks for at most thirteen, so that places and sums fit: the
+// slices are of whole years and of parts of years, which no array's type says.
 ghost use Rattle.std.specs.Prelude.{◌≡◌, ◌*◌, ◌≤◌, length};
 ghost use Rattle.days.specs.Months.{total, Placed, Counted};
 

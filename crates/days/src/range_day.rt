@@ -30,6 +30,7 @@ impl RangeDay {
     pub fn new(day: u32) -> Option<RangeDay>
         ensures { result ≡ then_some (in_range day) day }
     {
+        // By `then`, the closure would need a clause that tells it that the day is in the range.
         if in_range(day) {
             Some(RangeDay { day })
         } else {

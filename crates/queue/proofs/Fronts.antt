@@ -1,7 +1,8 @@
 -- What is in the places after a part of them was lent and came back changed.
+-- The library has the single steps, as `drop-drop` and `take_more`.
 use Rattle.std.proofs.Common.{◌≡◌, ℕ, ◌+◌, ◌-◌, ◌<◌, ◌≤◌, List, [], ◌∷◌, ◌++◌, length, get_or, take, drop, set, sym, ap, ◌∙◌, subst, arith}
 use Rattle.std.specs.List.Sorted.{IsPermutation}
-use Rattle.std.proofs.lemmas.List.{take_more_set, take_more, take_all, get_or-take, drop-drop}
+use Rattle.std.proofs.lemmas.List.{take_at, take-append-le, length-append, take_more_set, take_more, take_all, get_or-take, drop-drop}
 use Rattle.std.proofs.lemmas.List.Sorted.{IsPermutation-sym, IsPermutation-trans, IsPermutation-to_front, IsPermutation-cons}
 
 module _ {X : Type 0} where
@@ -21,9 +22,13 @@ module _ {X : Type 0} where
       sym (take_all (m + 1) ws (omega arith)) ∙ take_more ws m x (omega arith) ∙ ap (λ y. take m ws ++ y ∷ []) last in
       subst (λ l. IsPermutation l (x ∷ ys)) (sym is) (IsPermutation-trans _ _ _ (IsPermutation-to_front (take m ws) x) (IsPermutation-cons x (take m ws) ys s))
 
-  -- lists that agree from a place on agree from any later place on
-  pub past_later : (xs ys : List X) (m n : ℕ) → m ≤ n → drop m xs ≡ drop m ys → drop n xs ≡ drop n ys
-  past_later xs ys m n h e =
+  -- ys came back in the first n places of a part that was lent itself
+  pub lent_twice : (ys part all : List X) (n : ℕ) → length ys ≡ n → take n ((ys ++ part) ++ all) ≡ ys
+  lent_twice ys part all n long = take-append-le n (ys ++ part) all (omega (arith, length-append ys part)) ∙ take_at ys part n long
+
+  -- what two lists have in common from a place on, they have in common from any later place on, and so with a third
+  pub past_later : (xs ys zs : List X) (m n : ℕ) → m ≤ n → drop m xs ≡ drop m ys → drop n ys ≡ drop n zs → drop n xs ≡ drop n zs
+  past_later xs ys zs m n h e f =
       let is : m + (n - m) ≡ n = omega arith in
       let at : (l : List X) → drop n l ≡ drop (n - m) (drop m l) = λ l. ap (λ k. drop k l) (sym is) ∙ sym (drop-drop (n - m) m l) in
-      at xs ∙ ap (drop (n - m)) e ∙ sym (at ys)
+      at xs ∙ ap (drop (n - m)) e ∙ sym (at ys) ∙ f

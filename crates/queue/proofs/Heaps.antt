@@ -1,4 +1,5 @@
 -- An entry rises and sinks in a heap, and the first entry of a heap is its least.
+-- The library has heaps of its own types only, and none over lent places.
 use Rattle.std.proofs.Common.{◌≡◌, ℕ, zero, suc, ◌+◌, ◌-◌, ◌*◌, ◌/◌, ◌<◌, ◌≤◌, Bool, true, false, List, length, get_or, take, sym, refl, ap, ◌∙◌, subst, ⊎_elim, arith}
 use Rattle.std.specs.List.{ContainsAt as Has}
 use Rattle.std.proofs.lemmas.List.{get_or_read}
@@ -17,21 +18,6 @@ module _ {X : Type 0} (before : X → X → Bool) where
   pub tells : (xs : List X) (i j : ℕ) (x y : X) (r b : Bool) → i < length xs → j < length xs → x ≡ get_or xs i x → y ≡ get_or xs j y → r ≡ before x y → r ≡ b
       → (d : X) → before (get_or xs i d) (get_or xs j d) ≡ b
   tells xs i j x y r b p q e f t u d = (λ k. before (sym (get_or_read xs i x p e d) k) (sym (get_or_read xs j y q f d) k)) ∙ (sym t ∙ u)
-
-  -- the entry at j has found its place
-  pub closes : (xs : List X) (j n : ℕ) → Follows before xs j → Leads before xs j j n → HeapedBut before xs j n → Heaped before xs n
-  closes xs j n follows leads h = λ p k d a b f. ⊎_elim
-      (λ e. alike refl (ap (λ m. get_or xs m d) e) (leads k d (omega arith) (omega arith) f))
-      (λ u. ⊎_elim
-      (λ e. alike (ap (λ m. get_or xs m d) e) refl (follows p d (omega arith) (omega arith)))
-      (λ v. h.0 p k d a b f u v) (cases_eq k j)) (cases_eq p j)
-
-  -- ys is a heap xs of m but for its first entry, and cut short
-  pub first_begins : (xs ys : List X) (n m : ℕ) → n ≤ m → ((k : ℕ) (d : X) → 0 < k → k < n → get_or ys k d ≡ get_or xs k d) → Heaped before xs m → HeapedBut before ys 0 n
-  first_begins xs ys n m le e h = (
-    λ p k d a b f u v. alike (e k d (omega arith) f) (e p d (omega arith) (omega arith)) (h p k d a b (omega arith)),
-    λ p k d a b f g i. absurd (omega arith),
-  )
 
   -- lists that agree on their first n places
   pub heaped_same : (xs ys : List X) (n : ℕ) → ((k : ℕ) (d : X) → k < n → get_or ys k d ≡ get_or xs k d) → Heaped before xs n → Heaped before ys n
@@ -87,10 +73,6 @@ module _ {X : Type 0} (before : X → X → Bool) where
         ),
         λ p d a b. let e : p ≡ j = omega arith in alike (s1 d) (at_j p d e) (o.one_way _ _ (t d)),
       )
-
-    -- an entry that is not after the child that leads rests
-    pub rests : (xs : List X) (j c n : ℕ) → ((d : X) → before (get_or xs c d) (get_or xs j d) ≡ false) → Leads before xs c j n → Leads before xs j j n
-    rests xs j c n t leads k d a b f = o.chain _ _ _ (leads k d a b f) (t d)
 
     -- no entry of a heap is before the first, since none is before its parent: `up` bounds the way up from k
     from_top : (xs : List X) (n : ℕ) (d : X) → Heaped before xs n → (up k : ℕ) → k ≤ up → k < n → before (get_or xs k d) (get_or xs 0 d) ≡ false

@@ -1,12 +1,11 @@
--- Which entries a list holds, in which of its first places, and how many of them pass a test.
-use Rattle.std.proofs.Common.{◌≡◌, ℕ, zero, suc, ◌+◌, ◌<◌, ◌≤◌, Bool, true, false, cond, ◌⊎◌, List, [], ◌∷◌, length, get_or, take, count_by, sym, refl, ap, ◌∙◌, subst, inl, inr, zero-add, arith}
+-- Which entries a list holds, and in which of its first places.
+-- `rt lemma` finds none of these in the library.
+use Rattle.std.proofs.Common.{◌≡◌, ℕ, zero, suc, ◌<◌, ◌≤◌, ◌⊎◌, List, ◌∷◌, length, get_or, take, sym, refl, ◌∙◌, subst, inl, inr, arith}
 use Rattle.std.specs.List.Sorted.{IsPermutation}
-use Rattle.std.specs.List.{ContainsAt as Has, AllByRecursion}
+use Rattle.std.specs.List.{ContainsAt as Has}
 use Rattle.std.proofs.lemmas.List.{get_or-take, length-take-le}
 use Rattle.std.proofs.ByRecursion.{has_get_or, has_shuffled}
-use Rattle.std.proofs.lemmas.List.Sums.{sum_by-cons}
-use Rattle.std.proofs.lemmas.List.Sorted.{IsPermutation-sym, sum_by-IsPermutation}
-use Rattle.std.proofs.lemmas.Bool.{cond-true, cond-false}
+use Rattle.std.proofs.lemmas.List.Sorted.{IsPermutation-sym}
 
 module _ {X : Type 0} where
   pub has_first : (x : X) (xs : List X) → Has (x ∷ xs) x
@@ -43,18 +42,3 @@ module _ {X : Type 0} where
 
     pub with_only : (y : X) → Has all y → (x ≡ y) ⊎ Has others y
     with_only y h = has_cases x y others ((same_members (x ∷ others) all s y).1 h)
-
-  -- how many entries pass a test
-  module _ (p : X → Bool) where
-    pub count_yes : (x : X) (xs : List X) → p x ≡ true → count_by p (x ∷ xs) ≡ 1 + count_by p xs
-    count_yes x xs e = sum_by-cons (λ y. cond (p y) 1 0) x xs ∙ ap (λ n. n + count_by p xs) (cond-true (p x) 1 0 e)
-
-    pub count_no : (x : X) (xs : List X) → p x ≡ false → count_by p (x ∷ xs) ≡ count_by p xs
-    count_no x xs e = sum_by-cons (λ y. cond (p y) 1 0) x xs ∙ ap (λ n. n + count_by p xs) (cond-false (p x) 1 0 e) ∙ zero-add (count_by p xs)
-
-    pub count_none : (xs : List X) → AllByRecursion (λ x. p x ≡ false) xs → count_by p xs ≡ 0
-    count_none [] a = refl
-    count_none (x ∷ xs) a = count_no x xs a.0 ∙ count_none xs a.1
-
-    pub count_shuffled : (xs ys : List X) → IsPermutation xs ys → count_by p ys ≡ count_by p xs
-    count_shuffled = sum_by-IsPermutation (λ x. cond (p x) 1 0)

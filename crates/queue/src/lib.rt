@@ -67,10 +67,7 @@ fn earlier_child<T: Entry>(front: &[T], j: usize) -> usize
 {
     let left = j * 2 + 1;
     let right = left + 1;
-    if right == front.len() {
-        return left;
-    }
-    if earlier(front[right], front[left]) {
+    if right < front.len() && earlier(front[right], front[left]) {
         right
     } else {
         left
@@ -126,6 +123,7 @@ pub fn pop<T: Entry>(slots: &mut [T], used: usize) -> Option<T>
 }
 
 // The least entry of the first `used` places that is not before `from`. What these places hold afterwards is left open.
+// A walk over a heap that changes with each entry taken, which no iterator makes.
 pub fn first_from<T: Entry>(slots: &mut [T], used: usize, from: T) -> Option<T>
     requires within { used ≤ length slots.old }
     requires heaped { Heaped T.Entry.before slots.old used }

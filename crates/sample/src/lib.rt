@@ -7,6 +7,7 @@ ghost use Rattle.sample.specs.Laws.{laws};
 
 use calendar::{Calendar, Sheet, Sheets, date_from, year_codes};
 
+// The three kinds of years differ in their months alone, so that a function for all would take the whole sheet.
 const LOWEST: u32 = 1;
 
 const HIGHEST: u32 = 304;
@@ -47,6 +48,7 @@ fn year_with_9l(first: u32) -> Sheet
     }
 }
 
+// The bound stands here, since each calendar counts other years: a type would be no plainer.
 fn year_sheet(year: u32) -> Sheet
     requires { (1 ≤ year) × (year ≤ 10000) }
     ensures { result ≡ wandering_year year }

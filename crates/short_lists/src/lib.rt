@@ -103,6 +103,7 @@ impl<T: Blank, const N: usize> ShortList<T, N> {
     }
 }
 
+// As a derive the proof does not close: what the clone of a T is, its trait does not say.
 impl<T: Blank, const N: usize> Clone for ShortList<T, N> {
     ghost is_clone = { λ x y. y ≡ x };
 

@@ -1,23 +1,15 @@
-use Rattle.std.proofs.Common.{◌≡◌, ◌-◌, true, ◌∷◌, take, ◌∙◌, subst, ⊎_elim, arith}
+-- The check does not find what an entry that was taken out and is too early leaves of those that are looked for.
+use Rattle.std.proofs.Common.{◌≡◌, ◌-◌, true, ◌∷◌, take, subst, ⊎_elim, arith}
 use Rattle.std.proofs.lemmas.List.Sorted.{IsPermutation-sym}
 use Rattle.std.proofs.lemmas.Bool.{both_ways}
 use Rattle.queue.proofs.Fronts.{past_later}
 use Rattle.queue.proofs.Members.{with_keeps, with_only}
 use Rattle.queue.proofs.first_from.Goals as goal
 
-pub returns-then-not-earlier : goal.returns-then-not-earlier
-returns-then-not-earlier g c =
+pub returns-then-not-earlier-clause-beyond : goal.returns-then-not-earlier-clause-beyond
+returns-then-not-earlier-clause-beyond g c =
     let l = c.loop-entry in
-    let x = c.in-Some.entry in
-    let least = c.in-Some.ensures.popped.least in
-    record {
-      first = record {
-        among = l.invariant.4 x least.among;
-        late = rw c.earlier.ensures at c.if-not-earlier.true;
-        first = λ y h late. least.first y (l.invariant.5 y h late);
-      };
-      beyond = past_later c.pop.new.slots l.slots l.left c.args.used (omega arith) c.pop.ensures.beyond ∙ l.invariant.3;
-    }
+    past_later c.pop.new.slots l.slots c.args.slots.now l.left c.args.used (omega arith) c.pop.ensures.beyond l.invariant.3
 
 pub loop-entry-preserved : goal.loop-entry-preserved
 loop-entry-preserved g c =
@@ -31,7 +23,7 @@ loop-entry-preserved g c =
       omega arith,
       omega arith,
       c.pop.ensures.heaped,
-      past_later c.pop.new.slots l.slots l.left c.args.used (omega arith) c.pop.ensures.beyond ∙ l.invariant.3,
+      past_later c.pop.new.slots l.slots c.args.slots.now l.left c.args.used (omega arith) c.pop.ensures.beyond l.invariant.3,
       λ y h. l.invariant.4 y (with_keeps x rest had others y h),
       λ y h late. ⊎_elim (λ e. absurd (both_ways (before y c.args.from) late (subst (λ z. before z c.args.from ≡ true) e early))) (λ m. m)
           (with_only x rest had others y (l.invariant.5 y h late)),

@@ -1,3 +1,4 @@
+-- What the loop keeps: the check does not find an invariant, nor a measure.
 use Rattle.std.proofs.Common.{◌≡◌, ◌≤◌, false, length, take, drop}
 use Rattle.std.specs.List.{ContainsAt as Has}
 use Rattle.queue.specs.Heap.{Heaped}

@@ -1,3 +1,4 @@
+-- The check does not find that an exchange with the parent leaves one entry that looks for its place.
 use Rattle.std.proofs.Common.{◌-◌, ◌/◌, true, length, arith}
 use Rattle.std.proofs.lemmas.List.Sorted.{IsPermutation-trans}
 use Rattle.queue.proofs.Heaps.{tells, rises}

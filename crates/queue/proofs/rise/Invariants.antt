@@ -1,3 +1,4 @@
+-- What the loop keeps: the check does not find an invariant, nor a measure.
 use Rattle.std.proofs.Common.{◌<◌, length}
 use Rattle.std.specs.List.Sorted.{IsPermutation}
 use Rattle.queue.specs.Steps.{HeapedBut, Leads}

@@ -1,6 +1,7 @@
-use Rattle.std.proofs.Common.{true, false, length, arith}
+-- The check does not find that an exchange with the child leaves one entry that looks for its place.
+use Rattle.std.proofs.Common.{true, length, arith}
 use Rattle.std.proofs.lemmas.List.Sorted.{IsPermutation-trans}
-use Rattle.queue.proofs.Heaps.{tells, closes, rests, sinks}
+use Rattle.queue.proofs.Heaps.{tells, sinks}
 use Rattle.queue.proofs.sink.Goals as goal
 
 pub loop-j-preserved : goal.loop-j-preserved
@@ -15,18 +16,3 @@ loop-j-preserved g c =
     (λ k d p q r. child.ensures.leads k d p q (omega arith))
     l.invariant.1 in
     (IsPermutation-trans _ _ _ l.invariant.0 w.permutation, sunk.0, sunk.1)
-
-pub returns-then-not-earlier : goal.returns-then-not-earlier
-returns-then-not-earlier g c =
-    let l = c.loop-j in
-    let before = g.T.Entry.before in
-    let child = c.earlier_child-child in
-    let n = length l.front in
-    record {
-      entries = l.invariant.0;
-      heaped = closes before l.front l.j n l.invariant.2
-          (rests before g.T.Entry.order l.front l.j child.result n
-          (tells before l.front child.result l.j _ _ c.earlier.result false (omega arith) (omega arith) c.index-front-child.is c.index-front-j.is c.earlier.ensures c.if-not-earlier.true)
-          child.ensures.leads)
-          (λ p k d a b f. l.invariant.1.0 p k d a b (omega arith), λ p k d a b e f h. l.invariant.1.1 p k d a b e f (omega arith));
-    }

@@ -1,20 +1,18 @@
-use Rattle.std.proofs.Common.{◌≡◌, ◌+◌, ◌<◌, [], ◌∷◌, ◌++◌, ap, ◌∙◌, sym, arith}
-use Rattle.short_lists.specs.Places.{places}
-use Rattle.short_lists.proofs.More.{pushed, one_more}
-use Rattle.calendar.specs.Sheets.{no_code, plain_code}
+-- The check does not find that the array of thirteen codes is a list of plain codes, whose first are fewer of them.
+use Rattle.std.proofs.Common.{◌≡◌, get_or, sym, ◌∙◌, arith, rules}
+use Rattle.std.proofs.lemmas.List.{same_lists, get_or-map}
 use Rattle.calendar.specs.Codes.{plain_codes}
-use Rattle.calendar.proofs.YearCodes.{plain_codes_push}
+use Rattle.calendar.specs.Laws.{counted}
+use Rattle.calendar.specs.Sheets.{plain_code}
+use Rattle.calendar.proofs.YearCodes.{plain_first}
 use Rattle.calendar.proofs.month_codes.plain_codes.Goals as goal
-
-pub loop-before-preserved : goal.loop-before-preserved
-loop-before-preserved c =
-    let k = c.loop-before.before in
-    let filled = c.loop-before.invariant.filled in
-    let room : k < 13 = omega arith in
-    let codes = pushed 13 no_code (plain_code (k + 1)) c.loop-before.codes k filled room ∙ ap (λ l. l ++ plain_code (k + 1) ∷ []) c.loop-before.invariant.codes ∙ sym (plain_codes_push k) in
-    simp (c.from.ensures, c.plain.ensures) record { filled = one_more 13 no_code (plain_code (k + 1)) c.loop-before.codes k filled room; codes = codes }
 
 pub returns : goal.returns
 returns c =
-    let end : c.loop-before.before ≡ c.args.last = omega arith in
-    sym c.loop-before.invariant.filled.blanks ∙ ap (places 13 no_code) (c.loop-before.invariant.codes ∙ ap (plain_codes 1) end)
+    let codes = c.map-codes.ensures.items in
+    let all : c.map-codes.result ≡ plain_codes 1 13 = sym (same_lists _ _ (sym codes.long) (λ k d h.
+    let one = codes.at k 0 d h in
+    let is : get_or c.map-codes.result k d ≡ plain_code (get_or (counted 1 13) k 0) = search rules in
+    get_or-map plain_code (counted 1 13) k 0 d h ∙ sym is)) in
+    simp (c.from.ensures, all)
+    (plain_first c.args.last c.fill.new.self (omega arith) (simp (c.from.ensures, c.blank.ensures, all) at c.fill.ensures.after (λ y e. search rules)))

@@ -1,3 +1,4 @@
+-- What the loop keeps: the check does not find an invariant.
 use Rattle.calendar.proofs.Dating.{Open, gap}
 use Rattle.calendar.proofs.search.date_from.Given as goal
 

@@ -1,3 +1,4 @@
+-- The check does not find that a year begins after the one before it.
 use Rattle.std.proofs.Common.{rules}
 use Rattle.calendars.specs.Moons.{new_year_next}
 use Rattle.calendars.proofs.hebrew.year_sheet.Goals as goal

@@ -1,3 +1,4 @@
+-- What the loop keeps: the check does not find an invariant.
 use Rattle.std.proofs.Common.{◌≡◌, ◌-◌, map, length, take, drop}
 use Rattle.days.specs.Digits.{first_other}
 use Rattle.days.proofs.digits.eight_digits.Given as goal

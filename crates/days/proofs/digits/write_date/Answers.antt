@@ -1,3 +1,4 @@
+-- The check does not find that the text reads as the day, and no other text.
 use Rattle.std.proofs.Common.{◌≡◌, true, rules}
 use Rattle.days.specs.Digits.{date_text}
 use Rattle.days.specs.Numbers.{in_range}

@@ -1,3 +1,4 @@
+-- The check does not find how large the sum of so many bytes can be.
 use Rattle.std.proofs.Common.{◌≤◌, rules, arith}
 use Rattle.std.proofs.lemmas.List.Elements.{All-from_get_or}
 use Rattle.std.proofs.lemmas.List.Sums.{sum_by-le}

@@ -1,3 +1,4 @@
+-- What the loop keeps: the check does not find an invariant.
 use Rattle.std.proofs.Common.{◌≡◌, ◌+◌, take}
 use Rattle.days.specs.Months.{total}
 use Rattle.days.proofs.months.place_after.Given as goal

@@ -1,3 +1,4 @@
+-- The check does not find that the rest's answer is the shelf's: what stands there is one almanac by two names.
 use Rattle.std.proofs.Common.{sym, subst}
 use Rattle.calendar.specs.Sheets.{Almanac, Dated}
 use Rattle.calendar.specs.Places.{at_rest}

@@ -1,3 +1,4 @@
+-- The check finds these in the other calendars, but not here.
 use Rattle.std.proofs.Common.{sym, ◌∙◌, arith}
 use Rattle.std.proofs.lemmas.Map.Keys.{le_from_is_le}
 use Rattle.calendars.specs.Hebrew.{hebrew_year}
