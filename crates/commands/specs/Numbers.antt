@@ -1,4 +1,5 @@
--- Numbers in commands: one or more decimal digits, with nothing else before or after them but, where it is taken, a plus.
+-- Numbers in commands: one or more decimal digits, with nothing else before or after them but, where it is taken, a
+-- plus.
 use Rattle.std.specs.Prelude.{ℕ, ◌+◌, ◌-◌, ◌*◌, Bool, true, cond, ◌&&◌, List, [], ◌∷◌, length, Some, None, Option, nat_le, ◌==◌}
 use Rattle.days.specs.Digits.{digit, written_after}
 use Rattle.commands.specs.declared.numbers.Numbers.{Numbers}

@@ -18,10 +18,10 @@ fn read_year(word: &[u8], numbers: Numbers) -> Result<u32, Complaint>
 fn read_day(word: &[u8], numbers: Numbers) -> Result<u8, Complaint>
     ensures { result ≡ day_read numbers word.now }
 {
-    let day = numbers
+    numbers
         .read(word, u32::from(u8::MAX))
-        .ok_or(Complaint::BadDay)?;
-    u8::try_from(day).map_err(|_| Complaint::BadDay)
+        .and_then(|day| u8::try_from(day).ok())
+        .ok_or(Complaint::BadDay)
 }
 
 fn read_named(
@@ -37,6 +37,9 @@ fn read_named(
     let day = read_day(day, numbers)?;
     Ok(NamedDate { year, code, day })
 }
+
+// The three below take words and numbers apart: a struct of both would ask for `can_next` where it is made, and need a
+// `next` of its own with a clause about the words that are left, so that it would be no plainer.
 
 // date DATE
 fn date_command<'a, W: Iterator<Item = &'a [u8]>>(mut words: W) -> Result<Command<'a>, Complaint>

@@ -55,10 +55,7 @@ fn look_up<S: Shelf>(shelf: &S, command: Command<'_>) -> Result<Option<Reply>, C
         Command::Year(name, year) => {
             let place = shelf.find(name).ok_or(Complaint::NoCalendar)?;
             let sheet = shelf.sheet(place, year);
-            if sheet.months == 0 {
-                return Ok(None);
-            }
-            Ok(Some(Reply::Year(place, year, sheet)))
+            Ok((sheet.months != 0).then_some(Reply::Year(place, year, sheet)))
         }
     }
 }

@@ -73,12 +73,10 @@ fn main(rt: HostRuntime) -> io::Result<()> {
                     respond(&rt, number, command)?;
                 }
             }
-            Err(e) => {
-                if e.kind() != io::ErrorKind::InvalidData {
-                    return Err(e);
-                }
+            Err(e) if e.kind() == io::ErrorKind::InvalidData => {
                 println!(rt; "line {number}: not UTF-8 text")?;
             }
+            Err(e) => return Err(e),
         }
     }
     Ok(())

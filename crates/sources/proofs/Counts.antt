@@ -1,4 +1,5 @@
 -- How many days of a set are before a day, and the last of the first n days of a set.
+-- The library counts elements of lists, and no numbers that pass a test below another.
 use Rattle.std.proofs.Common.{◌≡◌, ℕ, zero, suc, ◌+◌, ◌-◌, ◌<◌, ◌≤◌, Bool, true, false, ◌&&◌, ltb, leb, Some, None, Option, refl, ap, ◌∙◌, ⊎_elim, add-zero, add-suc, add-one, arith, MatchOption}
 use Rattle.std.proofs.lemmas.Bool.{cases_Bool, cases_lt, and_from, and_parts}
 use Rattle.std.proofs.lemmas.Bool.Decides.{nat_tests}

@@ -1,4 +1,5 @@
 -- Sets with the same days have the same answers.
+-- The library has no sets by a test and no least element of one.
 use Rattle.std.proofs.Common.{ℕ, Bool, Some, None, Option, sym, ◌∙◌}
 use Rattle.sources.specs.Sets.{DayOf, Found, Same}
 

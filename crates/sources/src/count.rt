@@ -10,7 +10,7 @@ pub fn last_day<S: Source>(source: &S, n: u16) -> Option<u32>
     requires { S.Source.ready source.now }
     ensures { LastOf (S.Source.days source.now) n result }
 {
-    // Each question depends on the answer before, and a source is no iterator.
+    // A source is no iterator, and `successors` would ask for one day more than is counted.
     let mut last = None;
     let mut at = 0;
     for _i in 0..n {

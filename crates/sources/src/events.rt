@@ -17,8 +17,8 @@ pub enum Limit {
     Count(u16),
 }
 
-// Where a rule ends, with what is kept of it: for a count, the last of the counted days, so that no question walks to it
-// again.
+// Where a rule ends, with what is kept of it: for a count, the last of the counted days, so that no question walks to
+// it again. A type beside Limit, which a file says: one for both would say in a file what is kept of nothing.
 #[derive(Clone, Copy)]
 pub enum Ending {
     Endless,
@@ -42,11 +42,13 @@ impl Ending {
             },
         }
     }
+}
 
-    pub fn limit(self) -> Limit
-        ensures { result ≡ limit_in self }
-    {
-        match self {
+impl From<Ending> for Limit {
+    ghost from_gives = { λ ending limit. limit ≡ limit_in ending };
+
+    fn from(ending: Ending) -> Limit {
+        match ending {
             Ending::Endless => Limit::Endless,
             Ending::Until(day) => Limit::Until(day),
             Ending::Count { n, .. } => Limit::Count(n),

@@ -33,7 +33,7 @@ impl<'a, S: Source> Source for Except<'a, S> {
     ghost ready = { λ s. S.Source.ready s.inner };
 
     fn next(&self, from: u32) -> Option<u32> {
-        // Each question depends on the answer before, and a source is no iterator.
+        // A source is no iterator, and `successors` would always ask for one day more than is wanted.
         let mut at = from;
         while let Some(day) = self.inner.next(at) {
             if !self.days.contains(&day) {

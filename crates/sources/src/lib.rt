@@ -1,4 +1,5 @@
-// Sets of days that answer which of their days comes next: bottom sources, layers over any source, and the days of events.
+// Sets of days that answer which of their days comes next: bottom sources, layers over any source, and the days of
+// events.
 #![tactic(auto)]
 
 ghost use Rattle.std.specs.Prelude.{ℕ, Bool};
@@ -14,8 +15,8 @@ pub use count::{Count, count_is_until, last_day};
 pub use events::{Amendments, Ending, Event, Limit};
 pub use layers::{Except, Union, Until};
 
-// A set of days in the range that answers which of them comes next. What a value keeps worked out has to be right, which
-// `ready` says, before it is asked. It is no invariant, since what is kept may come from outside, untested.
+// A set of days in the range that answers which of them comes next. What a value keeps worked out has to be right,
+// which `ready` says, before it is asked. It is no invariant, since what is kept may come from outside, untested.
 pub trait Source {
     ghost days: { Self → ℕ → Bool };
 

@@ -1,5 +1,6 @@
 -- The worked dates and days, by computing. For a date the month's place is given, and a test of the year's sheet does the
 -- rest. For a rule's days only so many periods are looked at as there are up to the last of them.
+-- The library has none of these: they are about almanacs and rules.
 use Rattle.std.proofs.Common.{◌≡◌, ℕ, zero, suc, ◌+◌, ◌-◌, ◌<◌, ◌≤◌, Bool, true, false, cond, ◌&&◌, eqb, leb, List, [], ◌∷◌, length, Some, None, Option, sym, refl, ap, ◌∙◌, ⊎_elim, arith}
 use Rattle.std.proofs.lemmas.Bool.{and_parts, and_from, leb-true, eqb-true, cases_lt}
 use Rattle.days.specs.Months.{before, length_at}
@@ -15,8 +16,7 @@ use Rattle.calendars.specs.Laws.{gregorian_laws, hebrew_laws}
 use Rattle.rules.specs.declared.parts.Frequency.TheVariants.{Yearly, Monthly}
 use Rattle.rules.specs.declared.parts.Skip.TheVariants.{Omit, Backward, Forward}
 use Rattle.rules.specs.declared.checked.Rule.{Rule}
-use Rattle.rules.specs.Meaning.{Date, date_of, given_among, some_below, first_from, gives}
-use Rattle.rules.specs.Onward.{counted_gives}
+use Rattle.rules.specs.Meaning.{Date, date_of, given_among, some_below, first_from, gives, counted_gives}
 use Rattle.rules.proofs.Searching.{below_from, below_found}
 use Rattle.rules.proofs.Dated.{date_found}
 use Rattle.rules.proofs.Orderly.{counted_orderly}

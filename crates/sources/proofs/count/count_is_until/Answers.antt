@@ -1,3 +1,4 @@
+-- The check does not find this: it is the crate's own lemma about every set of days.
 use Rattle.sources.proofs.Counts.{first_until}
 use Rattle.sources.proofs.count.count_is_until.Goals as goal
 

@@ -1,3 +1,4 @@
+-- Without these the check leaves the goals open: they cite lemmas of ours.
 use Rattle.std.proofs.Common.{arith}
 use Rattle.sources.proofs.Counts.{below_mono, start, step, walked_last}
 use Rattle.sources.proofs.count.last_day.Goals as goal

@@ -1,3 +1,4 @@
+-- What the loop keeps: the check does not find an invariant.
 use Rattle.sources.proofs.Counts.{Walked}
 use Rattle.sources.proofs.count.last_day.Given as goal
 

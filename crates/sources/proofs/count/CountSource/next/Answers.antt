@@ -1,3 +1,4 @@
+-- The check does not find that the days until the last of the first n are the first n.
 use Rattle.std.proofs.Common.{subst}
 use Rattle.sources.specs.Sets.{LastOf}
 use Rattle.sources.proofs.Counts.{first_until}

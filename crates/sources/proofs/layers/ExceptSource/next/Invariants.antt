@@ -1,3 +1,4 @@
+-- What the loop keeps: the check does not find an invariant, nor a measure.
 use Rattle.std.proofs.Common.{ℕ, ◌-◌, ◌<◌, ◌≤◌}
 use Rattle.sources.specs.Sets.{DayOf, except, listed}
 use Rattle.sources.proofs.layers.ExceptSource.next.Given as goal
