@@ -6,7 +6,8 @@ ghost use Rattle.rules.specs.Meaning.{gives};
 
 use calendar::{Calendar, Empty, On, PLACES, Shelf};
 use days::RangeDay;
-use rules::{Rule, RuleDays};
+use rule_days::RuleDays;
+use rules::Rule;
 use sources::Source;
 
 // A shelf that answers for a rule over the calendar at a place. The calendars of a shelf differ in type, so none can be

@@ -1,4 +1,5 @@
 -- Where the days of a period lie, over a lawful almanac.
+-- The library has no calendars and no periods, so these lemmas are our own.
 use Rattle.std.proofs.Common.{◌≡◌, ℕ, ◌+◌, ◌-◌, ◌<◌, ◌≤◌, Bool, true, cond, not, ◌&&◌, ◌||◌, eqb, ltb, leb, length, refl, ⊎_elim, arith}
 use Rattle.std.proofs.lemmas.Bool.{cases_lt, and_parts, leb-true, ltb-true, eqb-true, false≢true}
 use Rattle.std.proofs.lemmas.List.{take_all}

@@ -1,4 +1,5 @@
 -- Over a lawful almanac the search for a day's date finds its date, and none only if it has none.
+-- The library has no calendars and no periods, so these lemmas are our own.
 use Rattle.std.proofs.Common.{◌≡◌, ℕ, ◌+◌, ◌-◌, ◌<◌, ◌≤◌, true, false, ltb, leb, length, Some, None, Option, refl, ap, ◌∙◌, subst, arith, length-take}
 use Rattle.std.proofs.lemmas.Bool.{and_parts, and_from, and_right, leb-true, ltb-true, le-leb, lt-ltb, le-ltb}
 use Rattle.days.proofs.Totals.{before_later}

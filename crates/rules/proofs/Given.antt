@@ -1,4 +1,5 @@
 -- A rule's test of a day says what its words say, over any lawful almanac and from any day of the range.
+-- The library has no calendars and no periods, so these lemmas are our own.
 use Rattle.std.proofs.Common.{◌≡◌, ℕ, ◌+◌, ◌-◌, ◌≤◌, true, ◌&&◌, leb, Some, Option, sym, ap, ◌∙◌, subst, arith}
 use Rattle.std.proofs.lemmas.Bool.{and_from, and_parts, le-leb, leb-true}
 use Rattle.days.specs.Numbers.{in_range}
@@ -6,8 +7,7 @@ use Rattle.calendar.specs.Sheets.{Almanac, Stands}
 use Rattle.calendar.specs.Laws.{Lawful}
 use Rattle.calendar.proofs.Following.{given}
 use Rattle.rules.specs.declared.checked.Rule.{Rule}
-use Rattle.rules.specs.Onward.{counted_gives}
-use Rattle.rules.specs.Meaning.{Date, date_of, period_gives, counted_period, given_among, gives, RulesSay}
+use Rattle.rules.specs.Meaning.{Date, date_of, period_gives, counted_period, counted_gives, given_among, gives, RulesSay}
 use Rattle.rules.proofs.Searching.{below_from, below_found}
 use Rattle.rules.proofs.Dated.{date_found}
 use Rattle.rules.proofs.Orderly.{Orderly, counted_orderly}

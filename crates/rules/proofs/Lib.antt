@@ -1,6 +1,3 @@
-pub mod Tests
-pub mod Added
-pub mod Whole
 pub mod Searching
 pub mod Dated
 pub mod Fitting
@@ -9,8 +6,4 @@ pub mod Monthly
 pub mod Onward
 pub mod Orderly
 pub mod Given
-pub mod Leasts
-pub mod Sized
-pub mod Finding
-pub mod Stepping
 pub mod PartsSay

@@ -1,4 +1,5 @@
 -- Months that run on through the years: where each stands, and that a later one begins where an earlier one ends, or later.
+-- The library has no calendars and no periods, so these lemmas are our own.
 use Rattle.std.proofs.Common.{◌≡◌, ℕ, zero, suc, ◌+◌, ◌-◌, ◌<◌, ◌≤◌, ltb, length, take, sym, ap, ◌∙◌, subst, ⊎_elim, arith}
 use Rattle.std.proofs.lemmas.List.{take_all}
 use Rattle.std.proofs.lemmas.Bool.{cases_lt, cond_both, ltb-true, ltb-false}

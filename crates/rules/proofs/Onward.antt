@@ -1,5 +1,6 @@
 -- The periods of any rule move on: where each begins, and that its days come no earlier and those of the periods before
 -- it no later.
+-- The library has no calendars and no periods, so these lemmas are our own.
 use Rattle.std.proofs.Common.{◌≡◌, ℕ, ◌+◌, ◌*◌, ◌<◌, ◌≤◌, Bool, true, leb, subst, ⊎_elim, mul-le-mul_right, suc-mul, le-mul_of_pos_right, arith, lit<}
 use Rattle.std.proofs.lemmas.Bool.{cases_lt, and_parts, leb-true}
 use Rattle.days.specs.Numbers.{in_range, remainder}

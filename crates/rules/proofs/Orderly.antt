@@ -1,5 +1,6 @@
 -- The periods of any rule come in order: a day of a later one is not before a day of an earlier one, and each is a day
 -- further on at least.
+-- The library has no calendars and no periods, so these lemmas are our own.
 use Rattle.std.proofs.Common.{◌≡◌, ℕ, ◌+◌, ◌<◌, ◌≤◌, Bool, true, ⊎_elim, arith}
 use Rattle.std.proofs.lemmas.Bool.{cases_lt}
 use Rattle.days.specs.Numbers.{in_range}
@@ -34,8 +35,5 @@ moves_orderly a start P f m =
     }
 
 module _ (a : Almanac) (l : Lawful a) (r : Rule) (start : ℕ) (t : Date) (ranged : in_range start ≡ true) (st : Stands a start t.year t.place t.day) where
-  pub periods_orderly : Orderly start (λ k n. period_gives a r start t (period a r start t k) n)
-  periods_orderly = moves_orderly a start (period a r start t) _ (periods_move a l r start t ranged st)
-
   pub counted_orderly : Orderly start (λ i n. period_gives a r start t (counted_period a r start t i) n)
   counted_orderly = moves_orderly a start (counted_period a r start t) _ (counted_move a l r start t ranged st)

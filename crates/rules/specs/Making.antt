@@ -1,5 +1,5 @@
--- The rule that is made of parts, and the days that parts give over an almanac: those of the rule that says them, and none
--- where they do not fit together.
+-- The rule that is made of parts, and the days that parts give over an almanac: those of the rule that says them, and
+-- none where they do not fit together.
 use Rattle.std.specs.Prelude.{◌≡◌, ℕ, Bool, true, false, Some, None, Option, refl}
 use Rattle.calendar.specs.Sheets.{Almanac}
 use Rattle.rules.specs.declared.checked.Rule.{Rule}

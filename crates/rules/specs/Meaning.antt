@@ -222,6 +222,10 @@ period a r start t k = period_of r.parts.frequency a r start t k
 abbrev pub counted_period : Almanac → Rule → ℕ → Date → ℕ → Period
 counted_period a r start t i = period a r start t (i * r.parts.interval)
 
+-- the i-th period that counts gives n
+abbrev pub counted_gives : Almanac → Rule → ℕ → Date → ℕ → ℕ → Bool
+counted_gives a r start t i n = period_gives a r start t (counted_period a r start t i) n
+
 -- ── the rule's days ──
 
 -- n is a day of one of the first m periods that count

@@ -4,8 +4,8 @@ ghost use Rattle.rules.specs.Parts.{fitting};
 
 use crate::parts::Parts;
 
-// The parts fit together: the lists are no longer than they may be, every number is within its bounds, and no part stands
-// with a frequency that does not take it.
+// The parts fit together: the lists are no longer than they may be, every number is within its bounds, and no part
+// stands with a frequency that does not take it.
 #[derive(Clone, Copy)]
 pub struct Rule {
     pub parts: Parts,

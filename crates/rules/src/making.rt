@@ -45,7 +45,8 @@ pub fn takes_month_days(frequency: Frequency) -> bool
 }
 
 impl Parts {
-    // Whether the lists are no longer than they may be. Their types say so too; the definition stands by itself.
+    // Whether the lists are no longer than they may be. Their types say so too, yet without this test the proof of
+    // `checked` does not close, since the definition asks it of any lists.
     fn lists_fit(&self) -> bool
         ensures { result ≡ lists_fit self.now.months self.now.month_days self.now.weekdays }
     {
@@ -95,7 +96,8 @@ impl Parts {
             && (!numbered || takes_numbers(self.frequency) && no_values)
     }
 
-    // The rule that says just these parts, or none where they do not fit together.
+    // The rule that says just these parts, or none where they do not fit together. `TryFrom` would need an error that
+    // says no more than none.
     pub fn checked(&self) -> Option<Rule>
         ensures { Made self.now result }
     {

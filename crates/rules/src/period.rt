@@ -9,8 +9,8 @@ pub enum Period {
     Day(u32),
 }
 
-// Days in a row, of any sheet. That there are few is asked where they are walked: a type for it would be made and taken
-// apart at each step.
+// Days in a row, of any sheet. That they are few is asked by what adds them to a queue: a type for it would stand
+// beside this one, which the definitions speak of.
 #[derive(Clone, Copy)]
 pub struct Stretch {
     pub from: u32,

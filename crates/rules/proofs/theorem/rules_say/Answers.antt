@@ -1,3 +1,4 @@
+-- The check does not look for the theorem among the lemmas.
 use Rattle.rules.proofs.Given.{rules_say}
 use Rattle.rules.proofs.theorem.rules_say.Goals as goal
 

@@ -1,0 +1,4 @@
+pub mod Leasts
+pub mod Sized
+pub mod Finding
+pub mod Stepping

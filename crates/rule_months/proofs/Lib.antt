@@ -1,0 +1,3 @@
+pub mod Tests
+pub mod Added
+pub mod Whole
