@@ -1,9 +1,8 @@
 -- A component inside another: what is left after it is where the outer one goes on.
-use Rattle.std.proofs.Common.{◌≡◌, ℕ, zero, suc, ◌+◌, ◌-◌, ◌<◌, true, false, cond, List, [], ◌∷◌, ◌++◌, length, Some, None, codes, Option, sym, refl, ap, ◌∙◌, arith}
-use Rattle.std.proofs.lemmas.Bool.{cond-true, cond-false}
-use Rattle.lines.specs.Property.{is_named, value}
+-- They stay: each is an induction, which the check does not make.
+use Rattle.std.proofs.Common.{◌≡◌, ℕ, zero, suc, ◌+◌, ◌-◌, ◌<◌, true, false, cond, List, [], ◌∷◌, ◌++◌, length, Some, None, Option, sym, refl, ap, ◌∙◌, arith}
 use Rattle.text.specs.Letters.{same}
-use Rattle.components.specs.Nest.{Kind, Begin, End, Other, kind, walk, opened}
+use Rattle.components.specs.Nest.{Kind, Begin, End, Other, walk, opened}
 
 -- go on with what is left, if nothing was refused
 abbrev pub after : Option (List Kind) → (List Kind → Option (List Kind)) → Option (List Kind)
@@ -28,19 +27,9 @@ inner : (n : ℕ) (x y : List ℕ) (ks : List Kind) → walk n x [] (Begin y ∷
 inner zero x y ks = refl
 inner (suc n) x y ks = frame ks n (suc n) y [] x [] (omega arith)
 
--- what a line is, by its name
-pub kind_begin : (t : List ℕ) → true ≡ is_named (codes "BEGIN") t → kind t ≡ Begin (value t)
-kind_begin t e = cond-true (is_named (codes "BEGIN") t) _ _ (sym e)
-
-pub kind_end : (t : List ℕ) → false ≡ is_named (codes "BEGIN") t → true ≡ is_named (codes "END") t → kind t ≡ End (value t)
-kind_end t e f = cond-false (is_named (codes "BEGIN") t) _ _ (sym e) ∙ cond-true (is_named (codes "END") t) _ _ (sym f)
-
-pub kind_other : (t : List ℕ) → false ≡ is_named (codes "BEGIN") t → false ≡ is_named (codes "END") t → kind t ≡ Other
-kind_other t e f = cond-false (is_named (codes "BEGIN") t) _ _ (sym e) ∙ cond-false (is_named (codes "END") t) _ _ (sym f)
-
 -- a list that begins with a BEGIN: the body goes on where the component ends
 pub on_begin : (k : Kind) (ks : List Kind) (n : ℕ) (x y : List ℕ) (m : Option (List Kind)) → k ≡ Begin y → m ≡ opened n y ks → walk n x [] (k ∷ ks) ≡ after m (λ rest. walk n x [] rest)
 on_begin k ks n x y m e o = ap (λ j. walk n x [] (j ∷ ks)) e ∙ inner n x y ks ∙ ap (λ j. after j (λ rest. walk n x [] rest)) (sym o)
 
-pub opens : (d : ℕ) (x : List ℕ) (ks : List Kind) → d < 8 → opened (8 - d) x ks ≡ walk (8 - (d + 1)) x [] ks
-opens d x ks h = let e : 8 - d ≡ suc (8 - (d + 1)) = omega arith in ap (λ n. opened n x ks) e
+pub opens : (d e : ℕ) (x y : List ℕ) (ks : List Kind) → e ≡ d + 1 → e < 8 → y ≡ x → walk (7 - e) y [] ks ≡ opened (7 - d) x ks
+opens d e x y ks s h n = let k : 7 - d ≡ suc (7 - e) = omega arith in ap (λ z. walk (7 - e) z [] ks) n ∙ sym (ap (λ m. opened m x ks) k)

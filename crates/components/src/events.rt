@@ -3,10 +3,12 @@ ghost use Rattle.std.specs.Prelude.{◌≡◌, ◌<◌, ◌≤◌, [], ◌∷◌
 ghost use Rattle.lines.specs.View.{view, rest, line_of};
 ghost use Rattle.components.specs.Events.{own, events, event_at, picked};
 
-use lines::{Cursor, named, value_of};
+use crate::kind::{Kind, kind_of};
+use lines::{Cursor, named};
 use text::reads;
 
 // The BEGIN of the next event, from inside `inside` components; goes on to the line after it.
+// `on` stands beside `found` and `later`: who reads on in a loop needs that the lines get fewer.
 pub fn next_event<'a>(lines: &mut Cursor<'a>, inside: usize) -> Option<Cursor<'a>>
     requires { inside ≤ 2 }
     ensures found { MatchOption result (events inside (view lines.old) ≡ []) (λ event. events inside (view lines.old) ≡ event_at event ∷ events 2 (view lines.new)) }
@@ -14,15 +16,14 @@ pub fn next_event<'a>(lines: &mut Cursor<'a>, inside: usize) -> Option<Cursor<'a
     ensures on { IfSome result (λ _. length (view lines.new) < length (view lines.old)) }
     ensures begins { IfSome result (λ event. view event ≡ line_of event ∷ (rest event).later) }
 {
+    // Not one walk with `first_named`: an END at level 0 ends that one, and this one goes on.
     let mut depth = inside;
     while let Some(line) = lines.next_line() {
-        if named(line, b"BEGIN") {
-            if depth == 1 && reads(value_of(line), b"VEVENT") {
-                return Some(line);
-            }
-            depth += 1;
-        } else if named(line, b"END") {
-            depth = depth.saturating_sub(1);
+        match kind_of(line) {
+            Kind::Begin(name) if depth == 1 && reads(name, b"VEVENT") => return Some(line),
+            Kind::Begin(_) => depth += 1,
+            Kind::End(_) => depth = depth.saturating_sub(1),
+            Kind::Other => {}
         }
     }
     None
@@ -32,15 +33,15 @@ pub fn next_event<'a>(lines: &mut Cursor<'a>, inside: usize) -> Option<Cursor<'a
 pub fn first_named<'a>(lines: Cursor<'a>, name: &[u8]) -> Option<Cursor<'a>>
     ensures { MatchOption result (picked name.now (own 0 (view lines.entry)) ≡ []) (λ line. picked name.now (own 0 (view lines.entry)) ≡ line_of line ∷ picked name.now (own 0 (rest line).later)) }
 {
+    // Not a chain over `lines()`: its items do not say what stands after the line that is found, as is promised here.
     let mut lines = lines;
     let mut depth: usize = 0;
     while let Some(line) = lines.next_line() {
-        if named(line, b"BEGIN") {
-            depth += 1;
-        } else if named(line, b"END") {
-            depth = depth.checked_sub(1)?;
-        } else if depth == 0 && named(line, name) {
-            return Some(line);
+        match kind_of(line) {
+            Kind::Begin(_) => depth += 1,
+            Kind::End(_) => depth = depth.checked_sub(1)?,
+            Kind::Other if depth == 0 && named(line, name) => return Some(line),
+            Kind::Other => {}
         }
     }
     None

@@ -2,6 +2,7 @@
 #![tactic(auto)]
 
 mod events;
+mod kind;
 mod tree;
 
 pub use events::{first_named, next_event, next_named};

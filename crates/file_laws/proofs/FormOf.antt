@@ -1,7 +1,8 @@
 -- The form of a line: the machine and the parts speak of the same line.
-use Rattle.std.proofs.Common.{◌≡◌, ℕ, true, false, cond, ◌&&◌, ◌||◌, eqb, ◌≢◌, List, [], ◌∷◌, ◌++◌, map, not, sym, refl, ap, ◌∙◌, append_assoc, append-nil, arith}
+-- They stay: each is an induction, which the check does not make.
+use Rattle.std.proofs.Common.{◌≡◌, ℕ, true, false, cond, ◌&&◌, ◌||◌, eqb, ◌≢◌, List, [], ◌∷◌, ◌++◌, map, not, sym, refl, ap, ◌∙◌, append_assoc, append-nil, arith, tests}
 use Rattle.std.specs.List.{AllByRecursion}
-use Rattle.std.proofs.lemmas.Bool.{cond-true, cond-false, cond_both, and_left, or_from, both_ways, false≢true, eqb-true, eqb-false, ne_eqb}
+use Rattle.std.proofs.lemmas.Bool.{cond-true, cond-false, cond_both, both_ways, false≢true, eqb-true, eqb-false, ne_eqb}
 use Rattle.lines.specs.Property.{name_byte, name, parameters, value, after, piece}
 use Rattle.lines.specs.Machine.{run, well_formed}
 use Rattle.lines.specs.declared.machine.State.{State}
@@ -40,8 +41,7 @@ param_on : (b : ℕ) (bs : List ℕ) → name_byte b ≡ true → run at.ParamNa
 param_on b bs y = cond-true (name_byte b) _ _ y
 
 text_on : (b : ℕ) (bs : List ℕ) → SoundItem (Plain b) → run at.Text (b ∷ bs) ≡ run at.Text bs
-text_on b bs h =
-    cond-false (eqb b 59) _ _ (ne_eqb b 59 h.2) ∙ cond-false (eqb b 58) _ _ (ne_eqb b 58 h.1) ∙ cond-false (eqb b 34) _ _ (ne_eqb b 34 h.0)
+text_on b bs h = grind (arith, tests)
 
 quoted_on : (b : ℕ) (bs : List ℕ) → b ≢ 34 → run at.Quoted (b ∷ bs) ≡ run at.Quoted bs
 quoted_on b bs h = cond-false (eqb b 34) _ _ (ne_eqb b 34 h)
@@ -87,15 +87,13 @@ named p h = ends_name p.name (after_name p.parameters p.value) h.0.1 (no_name p.
 
 -- the value
 value_plain : (b : ℕ) (bs : List ℕ) → eqb b 34 ≡ false → eqb b 58 ≡ false → after false 58 (b ∷ bs) ≡ after false 58 bs
-value_plain b bs q c = cond-false (eqb b 34) _ _ q ∙ cond-false (eqb b 58 && true) _ _ (and_left (eqb b 58) true c)
+value_plain b bs q c = grind (arith, tests)
 
 value_name : (n bs : List ℕ) → AllByRecursion (λ b. name_byte b ≡ true) n → after false 58 (n ++ bs) ≡ after false 58 bs
 value_name n bs h = passes (after false 58) (λ b. name_byte b ≡ true) (λ b xs y. value_plain b xs (apart b 34 refl y) (apart b 58 refl y)) n bs h
 
 inside_on : (b : ℕ) (bs : List ℕ) → b ≢ 34 → after true 58 (b ∷ bs) ≡ after true 58 bs
-inside_on b bs h =
-    cond-false (eqb b 34) _ _ (ne_eqb b 34 h)
-    ∙ elim (eqb b 58) as (λ t. cond (t && false) bs (after true 58 bs) ≡ after true 58 bs) [ true ↦ refl | false ↦ refl ]
+inside_on b bs h = grind (arith, tests)
 
 value_text : (t : List Item) (bs : List ℕ) → AllByRecursion SoundItem t → after false 58 (spelled t ++ bs) ≡ after false 58 bs
 value_text t bs h =
@@ -114,8 +112,7 @@ valued p h = value_name p.name (after_name p.parameters p.value) h.0.1 ∙ value
 
 -- a parameter's bytes
 piece_plain : (b : ℕ) (bs : List ℕ) → eqb b 34 ≡ false → eqb b 58 ≡ false → eqb b 59 ≡ false → piece false (b ∷ bs) ≡ b ∷ piece false bs
-piece_plain b bs q c s =
-    cond-false (eqb b 34) _ _ q ∙ cond-false ((eqb b 58 || eqb b 59) && true) _ _ (and_left (eqb b 58 || eqb b 59) true (or_from (eqb b 58) (eqb b 59) c s))
+piece_plain b bs q c s = grind (arith, tests)
 
 piece_name : (n bs : List ℕ) → AllByRecursion (λ b. name_byte b ≡ true) n → piece false (n ++ bs) ≡ n ++ piece false bs
 piece_name [] bs h = refl
@@ -151,20 +148,14 @@ piece_parameter p ps v h =
 
 -- the parameters
 parameters_plain : (b : ℕ) (bs : List ℕ) → eqb b 34 ≡ false → eqb b 58 ≡ false → eqb b 59 ≡ false → parameters false (b ∷ bs) ≡ parameters false bs
-parameters_plain b bs q c s =
-    cond-false (eqb b 34) _ _ q ∙ cond-false (eqb b 58 && true) _ _ (and_left (eqb b 58) true c) ∙ cond-false (eqb b 59 && true) _ _ (and_left (eqb b 59) true s)
+parameters_plain b bs q c s = grind (arith, tests)
 
 parameters_name : (n bs : List ℕ) → AllByRecursion (λ b. name_byte b ≡ true) n → parameters false (n ++ bs) ≡ parameters false bs
 parameters_name n bs h =
     passes (parameters false) (λ b. name_byte b ≡ true) (λ b xs y. parameters_plain b xs (apart b 34 refl y) (apart b 58 refl y) (apart b 59 refl y)) n bs h
 
 parameters_inside : (b : ℕ) (bs : List ℕ) → b ≢ 34 → parameters true (b ∷ bs) ≡ parameters true bs
-parameters_inside b bs h =
-    cond-false (eqb b 34) _ _ (ne_eqb b 34 h)
-    ∙ elim (eqb b 58) as (λ t. cond (t && false) [] (cond (eqb b 59 && false) (piece false bs ∷ parameters true bs) (parameters true bs)) ≡ parameters true bs) [
-      | true ↦ elim (eqb b 59) as (λ u. cond (u && false) (piece false bs ∷ parameters true bs) (parameters true bs) ≡ parameters true bs) [ true ↦ refl | false ↦ refl ]
-      | false ↦ elim (eqb b 59) as (λ u. cond (u && false) (piece false bs ∷ parameters true bs) (parameters true bs) ≡ parameters true bs) [ true ↦ refl | false ↦ refl ]
-    ]
+parameters_inside b bs h = grind (arith, tests)
 
 parameters_text : (t : List Item) (bs : List ℕ) → AllByRecursion SoundItem t → parameters false (spelled t ++ bs) ≡ parameters false bs
 parameters_text t bs h =

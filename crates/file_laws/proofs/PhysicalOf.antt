@@ -1,16 +1,15 @@
 -- A file and its physical lines: written out and read back.
-use Rattle.std.proofs.Common.{◌≡◌, ℕ, ◌<◌, Bool, true, false, not, ◌&&◌, ◌||◌, eqb, ◌≢◌, List, [], ◌∷◌, ◌++◌, length, refl, ap, ◌∙◌, arith}
+-- They stay: each is an induction, which the check does not make.
+use Rattle.std.proofs.Common.{◌≡◌, ℕ, ◌<◌, Bool, true, false, not, ◌&&◌, ◌||◌, eqb, ◌≢◌, List, [], ◌∷◌, ◌++◌, length, refl, ap, ◌∙◌, arith, tests}
 use Rattle.std.specs.List.{AllByRecursion}
-use Rattle.std.proofs.lemmas.Bool.{cond-false, cond_both, and_left, and_parts, or_from, or_parts, not-true, false≢true, eqb-true, eqb-false, ne_eqb}
+use Rattle.std.proofs.lemmas.Bool.{cond-false, cond_both, and_left, and_parts, or_parts, not-true, false≢true, eqb-false, ne_eqb}
 use Rattle.lines.specs.Lines.{crlf, glued, physical_lines}
 use Rattle.lines.specs.Ended.{proper, well_ended}
 use Rattle.file_laws.specs.Physical.{Unbroken, written, LineEnds}
 
 -- past a byte that is no CR or LF
 past : (s : Bool) (a b : ℕ) (bs : List ℕ) → a ≢ 13 → a ≢ 10 → proper s (a ∷ b ∷ bs) ≡ proper false (b ∷ bs)
-past s a b bs c l =
-    cond-false (crlf a b) _ _ (and_left (eqb a 13) (eqb b 10) (ne_eqb a 13 c))
-    ∙ ap (λ t. not t && proper false (b ∷ bs)) (or_from (eqb a 13) (eqb a 10) (ne_eqb a 13 c) (ne_eqb a 10 l))
+past s a b bs c l = grind (arith, tests)
 
 past_line : (s : Bool) (l bs : List ℕ) → Unbroken l → proper s (l ++ (13 ∷ 10 ∷ bs)) ≡ proper true bs
 past_line s [] bs h = refl
@@ -44,7 +43,7 @@ OfLines : List ℕ → Type 0
 OfLines bs = (l : List ℕ) × (ls : List (List ℕ)) × Unbroken l × AllByRecursion Unbroken ls × (bs ≡ written (l ∷ ls))
 
 marks : (a b : ℕ) (bs : List ℕ) → crlf a b ≡ true → a ∷ b ∷ bs ≡ 13 ∷ 10 ∷ bs
-marks a b bs y = let q = and_parts (eqb a 13) (eqb b 10) y in ap (λ c. c ∷ b ∷ bs) (eqb-true a 13 q.0) ∙ ap (λ c. 13 ∷ c ∷ bs) (eqb-true b 10 q.1)
+marks a b bs y = grind (arith, tests)
 
 longer : (a : ℕ) (bs : List ℕ) (s : Bool) → (not (eqb a 13 || eqb a 10) && s) ≡ true → OfLines bs → OfLines (a ∷ bs)
 unfolding OfLines

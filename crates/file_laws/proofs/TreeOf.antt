@@ -1,12 +1,12 @@
 -- A file's components: the walk over its lines and the tree that they make.
+-- They stay: each is an induction, which the check does not make.
 use Rattle.std.proofs.Common.{◌≡◌, ℕ, zero, suc, ◌+◌, ◌-◌, ◌<◌, ◌≤◌, Bool, true, false, cond, eqb, List, [], ◌∷◌, ◌++◌, Some, None, codes, sym, refl, ap, ◌∙◌, append_assoc, append-nil, arith}
 use Rattle.std.proofs.lemmas.Bool.{cond-true, cond-false, cond_both, and_left, and_right, and_from, and_parts, false≢true, ne_eqb}
 use Rattle.text.specs.Letters.{alike, same}
 use Rattle.lines.specs.Lines.{Line}
 use Rattle.lines.specs.Property.{is_named, name, value}
-use Rattle.components.specs.Nest.{Kind, Begin, End, Other, kind, kinds, walk, none_left, calendar, one_calendar}
+use Rattle.components.specs.Nest.{Begin, End, Other, kind, kinds, walk, none_left, calendar, one_calendar}
 use Rattle.components.specs.Events.{Event, own, events, events_in, is_event}
-use Rattle.components.proofs.Nesting.{kind_begin, kind_end, kind_other}
 use Rattle.components.proofs.Counting.{events_begin, events_end, events_other}
 use Rattle.file_laws.specs.Tree.{Body, Done, Property, Component, held, Closes, Nests, Calendar, Sound, lines, own_lines, events_of, Components}
 
@@ -19,14 +19,15 @@ not_both (a ∷ b ∷ c ∷ []) e = and_right (alike 66 a) _ (and_right (alike 6
 not_both (a ∷ b ∷ c ∷ d ∷ n) e =
     absurd (false≢true (and_parts (alike 68 c) false (and_parts (alike 78 b) _ (and_parts (alike 69 a) _ e).1).1).1)
 
+-- what a line is, by its name
 is_begin : {begin end : Line} → Closes begin end → kind begin.text ≡ Begin (value begin.text)
-is_begin {begin} c = kind_begin begin.text (sym c.begins)
+is_begin {begin} c = cond-true (is_named (codes "BEGIN") begin.text) _ _ c.begins
 
 is_end : (l : Line) → is_named (codes "END") l.text ≡ true → kind l.text ≡ End (value l.text)
-is_end l e = kind_end l.text (sym (not_both (name l.text) e)) (sym e)
+is_end l e = cond-false (is_named (codes "BEGIN") l.text) _ _ (not_both (name l.text) e) ∙ cond-true (is_named (codes "END") l.text) _ _ e
 
 is_other : (l : Line) → is_named (codes "BEGIN") l.text ≡ false → is_named (codes "END") l.text ≡ false → kind l.text ≡ Other
-is_other l e f = kind_other l.text (sym e) (sym f)
+is_other l e f = cond-false (is_named (codes "BEGIN") l.text) _ _ e ∙ cond-false (is_named (codes "END") l.text) _ _ f
 
 -- the walk passes over a body that nests
 walks : (b : Body) (n : ℕ) (x : List ℕ) (outer : List (List ℕ)) (ls : List Line) → Nests n b → walk n x outer (kinds (held b ++ ls)) ≡ walk n x outer (kinds ls)
@@ -125,20 +126,14 @@ only (l ∷ ls) e =
     e
 
 -- an event's own lines, line by line
-of : ℕ → Kind → Line → List Line → List Line
-of d k l ls = elim k [ Begin x ↦ own (d + 1) ls | End x ↦ cond (eqb d 0) [] (own (d - 1) ls) | Other ↦ cond (eqb d 0) (l ∷ own d ls) (own d ls) ]
-
 own_begin : (d : ℕ) (l : Line) (ls : List Line) (y : List ℕ) → kind l.text ≡ Begin y → own d (l ∷ ls) ≡ own (d + 1) ls
-unfolding of
-own_begin d l ls y e = ap (λ k. of d k l ls) e
+own_begin d l ls y e = rw (own, e) refl
 
 own_end : (d : ℕ) (l : Line) (ls : List Line) (y : List ℕ) → kind l.text ≡ End y → own d (l ∷ ls) ≡ cond (eqb d 0) [] (own (d - 1) ls)
-unfolding of
-own_end d l ls y e = ap (λ k. of d k l ls) e
+own_end d l ls y e = rw (own, e) refl
 
 own_other : (d : ℕ) (l : Line) (ls : List Line) → kind l.text ≡ Other → own d (l ∷ ls) ≡ cond (eqb d 0) (l ∷ own d ls) (own d ls)
-unfolding of
-own_other d l ls e = ap (λ k. of d k l ls) e
+own_other d l ls e = rw (own, e) refl
 
 -- a body inside an inner component is passed over
 own_past : (b : Body) (n d : ℕ) (ls : List Line) → Nests n b → 0 < d → own d (held b ++ ls) ≡ own d ls

@@ -1,4 +1,5 @@
 -- A file has no more lines than pairs of bytes, and one.
+-- They stay: each is an induction, which the check does not make.
 use Rattle.std.proofs.Common.{ℕ, ◌+◌, ◌*◌, ◌^◌, ◌≤◌, cond, List, [], ◌∷◌, length, arith}
 use Rattle.std.proofs.lemmas.Bool.{cond_both}
 use Rattle.lines.specs.declared.cursor.Cursor.{Cursor}

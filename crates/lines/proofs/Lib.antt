@@ -1,3 +1,4 @@
 pub mod Folds
 pub mod Joining
 pub mod Few
+pub mod Valued

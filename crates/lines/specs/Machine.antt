@@ -1,5 +1,6 @@
 -- The form of a line: a name, parameters and a colon outside quotes, read byte by byte.
 use Rattle.std.specs.Prelude.{ℕ, Bool, true, false, cond, ◌&&◌, List, [], ◌∷◌, ◌==◌}
+use Rattle.std.specs.List.{list_all}
 use Rattle.lines.specs.Lines.{Line}
 use Rattle.lines.specs.Property.{name_byte}
 use Rattle.lines.specs.declared.machine.State.{State}
@@ -24,5 +25,4 @@ well_formed bs = run Start bs
 
 -- each line
 abbrev pub all_well : List Line → Bool
-all_well [] = true
-all_well (l ∷ ls) = well_formed l.text && all_well ls
+all_well ls = list_all (λ l. well_formed l.text) ls

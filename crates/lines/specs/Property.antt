@@ -1,5 +1,6 @@
 -- The parts of a line: its name, its parameters and its value.
-use Rattle.std.specs.Prelude.{ℕ, Bool, false, cond, not, ◌&&◌, ◌||◌, List, [], ◌∷◌, codes, ◌==◌}
+use Rattle.std.specs.Prelude.{ℕ, Bool, false, cond, not, ◌&&◌, ◌||◌, List, [], ◌∷◌, Some, None, codes, ◌==◌}
+use Rattle.std.specs.List.{find}
 use Rattle.std.specs.Int.{is_in_range}
 use Rattle.text.specs.Letters.{same}
 use Rattle.text.specs.Pieces.{until}
@@ -11,6 +12,10 @@ name_byte b = is_in_range 65 90 b || (is_in_range 97 122 b || (is_in_range 48 57
 -- the name that the bytes begin with
 abbrev pub name : List ℕ → List ℕ
 name bs = until (λ b. not (name_byte b)) bs
+
+-- whether the byte after b stands inside quotes, where b does or does not
+abbrev pub quoted_after : Bool → ℕ → Bool
+quoted_after q b = cond (b == 34) (not q) q
 
 -- what stands after the first `mark` outside quotes; with q, from inside quotes
 abbrev pub after : Bool → ℕ → List ℕ → List ℕ
@@ -39,8 +44,7 @@ parameters q (b ∷ bs) =
 
 -- whether the first parameter named VALUE is w, letter case ignored
 abbrev pub value_is : List ℕ → List (List ℕ) → Bool
-value_is w [] = false
-value_is w (p ∷ ps) = cond (is_named (codes "VALUE") p) (same w p) (value_is w ps)
+value_is w ps = elim (find (is_named (codes "VALUE")) ps) [ Some p ↦ same w p | None ↦ false ]
 
 abbrev pub date_valued : List ℕ → Bool
 date_valued bs = value_is (codes "VALUE=DATE") (parameters false bs)

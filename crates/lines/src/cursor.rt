@@ -1,7 +1,10 @@
 // Places in a file.
 ghost use Rattle.std.specs.Prelude.{◌+◌, ◌*◌, ◌^◌, ◌≤◌, length};
 
+mod each_line;
 mod reads;
+
+pub use each_line::Lines;
 
 // A place in a file, in the physical line `place`, read without folds: the bytes that are left from it on.
 #[derive(Clone, Copy)]

@@ -6,7 +6,7 @@ mod ended;
 mod machine;
 mod property;
 
-pub use cursor::Cursor;
+pub use cursor::{Cursor, Lines};
 pub use ended::well_ended;
 pub use machine::{State, all_well_formed, well_formed};
 pub use property::{in_name, is_date, named, value_of};

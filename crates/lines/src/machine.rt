@@ -22,9 +22,8 @@ pub enum State {
 pub fn well_formed(line: Cursor) -> bool
     ensures { result ≡ well_formed (text line.entry) }
 {
-    let mut line = line;
     let mut state = State::Start;
-    while let Some(b) = line.next() {
+    for b in line.each() {
         state = match (state, b) {
             (State::Start | State::Name, b'A'..=b'Z' | b'a'..=b'z' | b'0'..=b'9' | b'-') =>
                 State::Name,
@@ -49,11 +48,5 @@ pub fn well_formed(line: Cursor) -> bool
 pub fn all_well_formed(file: &[u8]) -> bool
     ensures { result ≡ all_well (logical_lines file.now) }
 {
-    let mut lines = Cursor::new(file);
-    while let Some(line) = lines.next_line() {
-        if !well_formed(line) {
-            return false;
-        }
-    }
-    true
+    Cursor::new(file).lines().all(|line| well_formed(line))
 }

@@ -5,6 +5,7 @@ ghost use Rattle.text.specs.Letters.{alike, same};
 use crate::Bytes;
 
 // Whether two bytes are the same letter, case ignored.
+#[tactic(auto, unfolding(crate::specs::Letters::alike))]
 pub fn same_letter(a: u8, b: u8) -> bool
     ensures { result ≡ alike a b }
 {
@@ -22,12 +23,12 @@ pub fn reads<B: Bytes>(bytes: B, wanted: &[u8]) -> bool
 pub fn same_text<A: Bytes, B: Bytes>(one: A, other: B) -> bool
     ensures { result ≡ same (A.Bytes.left one) (B.Bytes.left other) }
 {
-    let mut left = one;
-    let mut right = other;
-    while let Some(x) = left.next() {
-        if !right.next().is_some_and(|y| same_letter(x, y)) {
+    // As a chain of `eq` the proof does not close: std has no lemma for what `eq` answers.
+    let mut other = other;
+    for x in one.each() {
+        if !other.next().is_some_and(|y| same_letter(x, y)) {
             return false;
         }
     }
-    right.next().is_none()
+    other.next().is_none()
 }

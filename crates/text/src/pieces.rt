@@ -1,12 +1,13 @@
 // Pieces of a text between separators.
-ghost use Rattle.std.specs.Prelude.{◌≡◌, ⊤, ◌==◌, ℕ, Bool, List, [], ◌∷◌, Some, None};
+ghost use Rattle.std.specs.Prelude.{◌≡◌, ⊤, ◌==◌, ℕ, Bool, false, true, List, [], Some, None, MatchOption, IfSome};
 ghost use Rattle.text.specs.Pieces.{until, past, has, pieces};
 
 use crate::Bytes;
 use std::alloc::AllocError;
 use std::marker::Model;
 
-// Which bytes end a part of a text.
+// Which bytes end a part of a text. Types and not closures: `left` needs a function, and what a closure answers is a
+// relation.
 pub trait Stop: Copy {
     ghost stops: { Self → ℕ → Bool };
 
@@ -52,20 +53,22 @@ impl<B: Bytes, S: Stop> Bytes for UpTo<B, S> {
     }
 }
 
-// Goes on past the first separator; whether there was one.
-pub fn skip_past<B: Bytes>(bytes: &mut B, mark: u8) -> bool
-    ensures found { result ≡ has mark (B.Bytes.left bytes.old) }
-    ensures rest { B.Bytes.left bytes.new ≡ past mark (B.Bytes.left bytes.old) }
+// What stands past the first separator, or none without one.
+// By hand: with `any` over Each the rest would have to be taken out of the iterator again.
+pub fn after<B: Bytes>(bytes: B, mark: u8) -> Option<B>
+    ensures found { MatchOption result (has mark (B.Bytes.left bytes) ≡ false) (λ _. has mark (B.Bytes.left bytes) ≡ true) }
+    ensures rest { IfSome result (λ rest. B.Bytes.left rest ≡ past mark (B.Bytes.left bytes)) }
 {
-    while let Some(b) = bytes.next() {
-        if b == mark {
-            return true;
+    let mut rest = bytes;
+    loop {
+        if rest.next()? == mark {
+            return Some(rest);
         }
     }
-    false
 }
 
-// The pieces between separators that are left of a text: those of what stands past the last separator that was read, or none once there was none.
+// The pieces between separators that are left of a text: those of what stands past the last separator that was read, or
+// none once there was none.
 #[derive(Drop)]
 pub struct Pieces<B: Bytes> {
     rest: Option<B>,
@@ -99,10 +102,9 @@ impl<B: Bytes> Iterator for Pieces<B> {
     ghost remaining = { item_count (λ s. s) };
 
     fn next(&mut self) -> Option<UpTo<B, Separator>> {
-        let mut rest = self.rest?;
-        let piece = UpTo::new(rest, Separator(self.mark));
-        self.rest = skip_past(&mut rest, self.mark).then_some(rest);
-        Some(piece)
+        let rest = self.rest?;
+        self.rest = after(rest, self.mark);
+        Some(UpTo::new(rest, Separator(self.mark)))
     }
 }
 

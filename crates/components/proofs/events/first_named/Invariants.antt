@@ -1,3 +1,4 @@
+-- The check finds neither: what the walk keeps of the lines, and that each turn leaves fewer.
 use Rattle.std.proofs.Common.{◌≡◌, ◌+◌, ◌≤◌, length}
 use Rattle.lines.specs.View.{view}
 use Rattle.components.specs.Events.{own, picked}

@@ -1,3 +1,4 @@
+-- The check does not find it: there are fewer levels than lines, so the count fits.
 use Rattle.std.proofs.Common.{arith}
 use Rattle.lines.proofs.Few.{few_view}
 use Rattle.components.proofs.events.next_event.Goals as goal

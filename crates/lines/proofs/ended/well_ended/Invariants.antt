@@ -1,3 +1,4 @@
+-- The check finds neither: how the rest ends decides, and each turn leaves fewer bytes.
 use Rattle.std.proofs.Common.{◌≡◌, length}
 use Rattle.lines.specs.Ended.{proper, well_ended}
 use Rattle.lines.proofs.ended.well_ended.Given as goal

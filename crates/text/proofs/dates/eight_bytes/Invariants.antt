@@ -1,3 +1,4 @@
+-- The check does not find it: what was read and what is left are the text.
 use Rattle.std.proofs.Common.{◌≡◌, ◌++◌, length, take}
 use Rattle.text.proofs.dates.eight_bytes.Given as goal
 

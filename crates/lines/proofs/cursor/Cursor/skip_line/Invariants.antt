@@ -1,3 +1,4 @@
+-- The check finds neither: each byte keeps the lines to come, and each turn leaves fewer bytes.
 use Rattle.std.proofs.Common.{◌≡◌, length}
 use Rattle.lines.specs.View.{rest}
 use Rattle.lines.proofs.cursor.Cursor.skip_line.Given as goal

@@ -1,11 +1,13 @@
-use Rattle.std.proofs.Common.{length, ap, arith}
-use Rattle.text.proofs.Cutting.{next_piece}
+-- The check finds neither: the first piece comes off where the text is cut, and so one piece fewer is left.
+use Rattle.std.proofs.Common.{◌∷◌, length, sym, ap, ◌∙◌, arith}
+use Rattle.text.proofs.Cutting.{of, next_piece}
 use Rattle.text.proofs.pieces.PiecesIterator.next.Goals as goal
 
 pub returns-clause-steps : goal.returns-clause-steps
 returns-clause-steps g c =
-    next_piece (g.B.Bytes.left) c.self.inside.mark c.self.inside.rest c.then_some-self-inside.result c.in_ok-rest.rest c.skip_past.new.bytes _ _ c.skip_past.result
-    c.self.view_is c.in_ok-rest.was c.new-piece.ensures c.skip_past.ensures.found c.skip_past.ensures.rest c.then_some-self-inside.ensures
+    sym c.self.view_is ∙ ap (of g.B.Bytes.left c.self.inside.mark) c.in_ok-rest.was
+    ∙ next_piece g.B.Bytes.left c.self.inside.mark c.in_ok-rest.rest c.after-self-inside.result c.after-self-inside.ensures.found c.after-self-inside.ensures.rest
+    ∙ ap (λ p. p ∷ of g.B.Bytes.left c.self.inside.mark c.after-self-inside.result) (sym c.new.ensures)
 
 pub returns-clause-goes : goal.returns-clause-goes
 returns-clause-goes g c =
