@@ -1,4 +1,5 @@
 -- What is read is within its bounds, and what passes the questions is a rule.
+-- They stay: each goes by whether a part is there, which the check does not.
 use Rattle.std.proofs.Common.{◌≡◌, ℕ, Bool, true, false, not, ◌&&◌, ◌||◌, leb, List, [], length, is_some, Some, None, codes, Option, sym, refl, ap, ◌∙◌, subst, arith}
 use Rattle.std.specs.Option.{unwrap_or}
 use Rattle.std.proofs.lemmas.Bool.{and_from, and_parts}
@@ -7,9 +8,9 @@ use Rattle.rules.specs.Parts.{fitting}
 use Rattle.rules.specs.declared.parts.Frequency.{Frequency}
 use Rattle.rules.specs.declared.parts.ByDay.{ByDay}
 use Rattle.rules.specs.declared.parts.Position.{Position}
-use Rattle.rule_values.specs.declared.values.Number.{Number}
-use Rattle.rule_values.specs.Values.{bounded_read, months_read, month_days_read, weekdays_read}
-use Rattle.rule_values.proofs.Bounded.{IfRead, bounded_within, months_fit, month_days_fit, weekdays_fit}
+use Rattle.rule_values.specs.Numbers.{number_to}
+use Rattle.rule_values.specs.Values.{months_read, month_days_read, weekdays_read}
+use Rattle.rule_values.proofs.Bounded.{IfRead, Within, number_within, months_fit, month_days_fit, weekdays_fit}
 use Rattle.rrule.specs.Named.{said, value_of}
 use Rattle.rrule.specs.Rule.{parts_said, the_interval, the_months, the_month_days, the_weekdays, values_of}
 use Rattle.rrule.specs.Questions.{month_days_allowed, numbers_allowed, by_frequency}
@@ -28,7 +29,7 @@ unwrap_or_by : {A : Type 0} (P : A → Type 0) (d : A) (o : Option A) → P d �
 unwrap_or_by P d None h k = h
 unwrap_or_by P d (Some x) h k = k
 
-interval_within : (o : Option (Number 999)) → IfRead (λ n. (leb 1 n.value && leb n.value 999) ≡ true) o → (leb 1 (the_interval o) && leb (the_interval o) 999) ≡ true
+interval_within : (o : Option ℕ) → IfRead (Within 999) o → (leb 1 (the_interval o) && leb (the_interval o) 999) ≡ true
 interval_within None k = refl
 interval_within (Some n) k = k
 
@@ -46,7 +47,7 @@ weekdays_within o =
 
 pub values_bounded : (ps : List (List ℕ)) → bounded (values_of ps) ≡ true
 values_bounded ps =
-    let i = interval_within (said (bounded_read 999) (value_of (codes "INTERVAL") ps)) (said_by _ (bounded_read 999) (bounded_within 999) (value_of (codes "INTERVAL") ps)) in
+    let i = interval_within (said (number_to 999) (value_of (codes "INTERVAL") ps)) (said_by _ (number_to 999) (number_within 999) (value_of (codes "INTERVAL") ps)) in
     let m = months_within (value_of (codes "BYMONTH") ps) in
     let d = month_days_within (value_of (codes "BYMONTHDAY") ps) in
     let w = weekdays_within (value_of (codes "BYDAY") ps) in

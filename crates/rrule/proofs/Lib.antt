@@ -1,3 +1,3 @@
-pub mod Twice
 pub mod Valued
+pub mod Said
 pub mod Checked

@@ -1,4 +1,5 @@
--- The questions asked of a rule in their order, and what its text says: the fault of the first that fails, or every field of the rule.
+-- The questions asked of a rule in their order, and what its text says: the fault of the first that fails, or every
+-- field of the rule.
 use Rattle.std.specs.Prelude.{ℕ, Bool, false, cond, not, ◌&&◌, ◌||◌, List, [], ◌∷◌, is_some, Some, None, Ok, Err, Option, Result}
 use Rattle.rules.specs.Parts.{some_of, numbered, takes_numbers, takes_month_days}
 use Rattle.rules.specs.declared.parts.Frequency.{Frequency}

@@ -10,13 +10,13 @@ use Rattle.rules.specs.declared.parts.Position.{Position}
 use Rattle.rules.specs.declared.parts.Skip.TheVariants.{Omit}
 use Rattle.rules.specs.declared.parts.Parts.{Parts}
 use Rattle.rule_values.specs.declared.values.LastDay.{LastDay}
-use Rattle.rule_values.specs.declared.values.Number.{Number}
 use Rattle.rule_values.specs.declared.values.ScaleName.{ScaleName}
 use Rattle.sources.specs.declared.events.Limit.{Limit}
 use Rattle.sources.specs.declared.events.Limit.TheVariants.{Endless, Until, Count}
 use Rattle.rrule.specs.declared.values.Values.{Values}
 use Rattle.rrule.specs.Named.{value_of, said, in_form}
-use Rattle.rule_values.specs.Values.{bounded_read, until_read, scale_read, months_read, month_days_read, weekdays_read}
+use Rattle.rule_values.specs.Numbers.{number_to}
+use Rattle.rule_values.specs.Values.{until_read, scale_read, months_read, month_days_read, weekdays_read}
 use Rattle.rule_values.specs.Words.{frequency_read, skip_read, weekday_read}
 
 -- what the parts say, each if it is there
@@ -24,8 +24,8 @@ abbrev pub values_of : List (List ℕ) → Values
 values_of ps =
     record {
       frequency = said frequency_read (value_of (codes "FREQ") ps);
-      interval = said (bounded_read 999) (value_of (codes "INTERVAL") ps);
-      count = said (bounded_read 9999) (value_of (codes "COUNT") ps);
+      interval = said (number_to 999) (value_of (codes "INTERVAL") ps);
+      count = said (number_to 9999) (value_of (codes "COUNT") ps);
       until = said until_read (value_of (codes "UNTIL") ps);
       week_start = said weekday_read (value_of (codes "WKST") ps);
       scale = said scale_read (value_of (codes "RSCALE") ps);
@@ -39,8 +39,8 @@ values_of ps =
 abbrev pub well_valued : List (List ℕ) → Bool
 well_valued ps =
     in_form frequency_read (value_of (codes "FREQ") ps)
-    && (in_form (bounded_read 999) (value_of (codes "INTERVAL") ps)
-    && (in_form (bounded_read 9999) (value_of (codes "COUNT") ps)
+    && (in_form (number_to 999) (value_of (codes "INTERVAL") ps)
+    && (in_form (number_to 9999) (value_of (codes "COUNT") ps)
     && (in_form until_read (value_of (codes "UNTIL") ps)
     && (in_form weekday_read (value_of (codes "WKST") ps)
     && (in_form scale_read (value_of (codes "RSCALE") ps)
@@ -50,9 +50,9 @@ well_valued ps =
     && in_form weekdays_read (value_of (codes "BYDAY") ps)))))))))
 
 -- what a part says, or else what stands for it
-abbrev pub the_interval : Option (Number 999) → ℕ
+abbrev pub the_interval : Option ℕ → ℕ
 the_interval None = 1
-the_interval (Some n) = n.value
+the_interval (Some n) = n
 
 abbrev pub the_months : Values → List MonthCode
 the_months v = unwrap_or v.months []
@@ -63,8 +63,8 @@ the_month_days v = unwrap_or v.month_days []
 abbrev pub the_weekdays : Values → List ByDay
 the_weekdays v = unwrap_or v.weekdays []
 
-abbrev pub the_limit : Option (Number 9999) → Option LastDay → Limit
-the_limit (Some n) last = Count n.value
+abbrev pub the_limit : Option ℕ → Option LastDay → Limit
+the_limit (Some n) last = Count n
 the_limit None (Some last) = Until last.day
 the_limit None None = Endless
 

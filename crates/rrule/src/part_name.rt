@@ -1,5 +1,5 @@
 // The names of a rule's parts.
-ghost use Rattle.rrule.specs.Named.{part_word};
+ghost use Rattle.rrule.specs.Named.{part_word, part_names};
 
 use rule_values::Word;
 
@@ -17,23 +17,10 @@ pub enum PartName {
     Weekdays,
 }
 
-impl PartName {
-    pub const ALL: [PartName; 10] = [
-        PartName::Frequency,
-        PartName::Interval,
-        PartName::Count,
-        PartName::Until,
-        PartName::WeekStart,
-        PartName::Scale,
-        PartName::Skip,
-        PartName::Months,
-        PartName::MonthDays,
-        PartName::Weekdays,
-    ];
-}
-
 impl Word for PartName {
     ghost spelling = { part_word };
+
+    ghost values = { part_names };
 
     fn word(self) -> &'static str {
         match self {
@@ -48,5 +35,20 @@ impl Word for PartName {
             PartName::MonthDays => "BYMONTHDAY",
             PartName::Weekdays => "BYDAY",
         }
+    }
+
+    fn all() -> &'static [PartName] {
+        &[
+            PartName::Frequency,
+            PartName::Interval,
+            PartName::Count,
+            PartName::Until,
+            PartName::WeekStart,
+            PartName::Scale,
+            PartName::Skip,
+            PartName::Months,
+            PartName::MonthDays,
+            PartName::Weekdays,
+        ]
     }
 }

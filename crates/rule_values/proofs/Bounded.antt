@@ -1,4 +1,5 @@
 -- What is read is within its bounds.
+-- They stay: each goes by what is read or by an induction over a list, which the check does not make.
 use Rattle.std.proofs.Common.{◌≡◌, ℕ, suc, Bool, true, ◌&&◌, eqb, leb, List, [], ◌∷◌, length, Some, None, Option, refl, ap, ◌∙◌}
 use Rattle.std.proofs.lemmas.Bool.{and_from, cond_both}
 use Rattle.days.specs.declared.weekday.Weekday.{Weekday}
@@ -10,7 +11,7 @@ use Rattle.rule_values.specs.Numbers.{from_one, number_to, number_read, counted,
 use Rattle.rule_values.specs.Items.{ahead, lettered, leap_read, month_code, month_code_read, month_day_read, which_read, some_position, by_day, by_day_read}
 use Rattle.rule_values.specs.Words.{weekday_read}
 use Rattle.rule_values.specs.Lists.{in_front, all_read, list_read}
-use Rattle.rule_values.specs.Values.{bounded_read, the_number, months_read, month_days_read, weekdays_read}
+use Rattle.rule_values.specs.Values.{months_read, month_days_read, weekdays_read}
 
 -- what is read, if anything is
 abbrev pub IfRead : {A : Type 0} → (A → Type 0) → Option A → Type 0
@@ -18,22 +19,15 @@ IfRead P None = Unit {0}
 IfRead P (Some x) = P x
 
 -- numbers
-abbrev Within : ℕ → ℕ → Type 0
+abbrev pub Within : ℕ → ℕ → Type 0
 Within most n = (leb 1 n && leb n most) ≡ true
 
 from_one_within : (most : ℕ) (o : Option ℕ) → IfRead (Within most) (from_one most o)
 from_one_within most None = tt
 from_one_within most (Some n) = cond_both (leb 1 n && leb n most) (Some n) None (IfRead (Within most)) (λ e. e) (λ e. tt)
 
-number_within : (most : ℕ) (bs : List ℕ) → IfRead (Within most) (number_to most bs)
+pub number_within : (most : ℕ) (bs : List ℕ) → IfRead (Within most) (number_to most bs)
 number_within most bs = from_one_within most (number_read bs)
-
-the_number_within : (most : ℕ) (o : Option ℕ) → IfRead (Within most) o → IfRead (λ n. Within most n.value) (the_number most o)
-the_number_within most None h = tt
-the_number_within most (Some n) h = h
-
-pub bounded_within : (most : ℕ) (bs : List ℕ) → IfRead (λ n. (leb 1 n.value && leb n.value most) ≡ true) (bounded_read most bs)
-bounded_within most bs = the_number_within most (number_to most bs) (number_within most bs)
 
 -- positions
 from_start_ok : (most : ℕ) (o : Option ℕ) → IfRead (Within most) o → IfRead (λ p. position_ok most p ≡ true) (counted FromStart o)

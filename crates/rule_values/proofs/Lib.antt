@@ -1,4 +1,3 @@
 pub mod Bounded
 pub mod Counted
-pub mod Pieces
 pub mod Stored

@@ -1,8 +1,8 @@
 -- Items that are put one after another at the end of a list.
-use Rattle.std.proofs.Common.{◌≡◌, ℕ, suc, ◌+◌, ◌<◌, ◌≤◌, Bool, true, false, cond, ltb, leb, List, [], ◌∷◌, ◌++◌, length, Some, None, Option, Ok, Err, Result, sym, refl, ap, ◌∙◌, ⊎_elim, zero-add, arith}
+-- They stay: the main one is an induction over the items, and the others are its steps.
+use Rattle.std.proofs.Common.{◌≡◌, ℕ, suc, ◌+◌, ◌<◌, ◌≤◌, Bool, true, false, cond, ltb, leb, List, [], ◌∷◌, ◌++◌, length, Some, None, Option, sym, refl, ap, ◌∙◌, ⊎_elim, zero-add, arith}
 use Rattle.std.proofs.lemmas.List.{append-nil, append_assoc, length-append}
-use Rattle.std.specs.Result.{IsOk, result_ok}
-use Rattle.std.proofs.lemmas.Bool.{cases_lt, cond-true, cond-false, lt-ltb, le-ltb, le-leb, lt-leb, false≢true}
+use Rattle.std.proofs.lemmas.Bool.{cases_lt, cond-true, cond-false, lt-ltb, le-ltb, le-leb, lt-leb}
 use Rattle.rule_values.specs.Lists.{in_front, all_read, at_most}
 
 -- what is read after `xs`, as long as there are at most n
@@ -63,14 +63,3 @@ every_byte (b ∷ bs) = ap (in_front (Some b)) (every_byte bs)
 -- bytes that are stored as they are
 pub stored_bytes : (n : ℕ) (bs : List ℕ) → stored_after n Some [] bs ≡ at_most n bs
 stored_bytes n bs = stored_all n Some bs ∙ ap (λ ys. cond (leb (length bs) n) ys None) (every_byte bs)
-
--- a push that did not succeed found no room
-pub was_full : {E : Type 0} (r : Result (Unit {0}) E) (len n : ℕ) → (IsOk r → len < n) × (len < n → IsOk r) → result_ok r ≡ None → n ≤ len
-was_full (Ok u) len n h e = cc
-was_full (Err d) len n h e = ⊎_elim (λ room. absurd (false≢true (h.1 room))) (λ full. full) (cases_lt len n)
-
--- bytes that are kept are those that were there, and are not too many
-pub kept_whole : (n : ℕ) (bs kept : List ℕ) → at_most n bs ≡ Some kept → (leb (length bs) n ≡ true) × (kept ≡ bs)
-kept_whole n bs kept e =
-    (elim (leb (length bs) n) as (λ b. cond b (Some bs) None ≡ Some kept → (b ≡ true) × (kept ≡ bs))
-    [ true ↦ (λ k. (refl, let h : kept ≡ bs = cc in h)) | false ↦ (λ k. absurd (let z : ◌≡◌ {A = ℕ} 0 1 = cc in omega arith)) ]) e

@@ -8,19 +8,9 @@ use Rattle.rules.specs.Parts.{each_of}
 use Rattle.rules.specs.declared.parts.ByDay.{ByDay}
 use Rattle.rules.specs.declared.parts.Position.{Position}
 use Rattle.rule_values.specs.declared.values.LastDay.{LastDay}
-use Rattle.rule_values.specs.declared.values.Number.{Number}
 use Rattle.rule_values.specs.declared.values.ScaleName.{ScaleName}
 use Rattle.rule_values.specs.Items.{month_code_read, month_day_read, by_day_read}
 use Rattle.rule_values.specs.Lists.{list_read}
-use Rattle.rule_values.specs.Numbers.{number_to}
-
--- INTERVAL and COUNT
-abbrev pub the_number : (most : ℕ) → Option ℕ → Option (Number most)
-the_number most None = None
-the_number most (Some n) = Some (record { value = n })
-
-abbrev pub bounded_read : (most : ℕ) → List ℕ → Option (Number most)
-bounded_read most bs = the_number most (number_to most bs)
 
 -- UNTIL: eight digits that are a real date
 abbrev pub real_day : Result ℕ DateFault → Option LastDay

@@ -25,11 +25,21 @@ skip_word Omit = codes "OMIT"
 skip_word Backward = codes "BACKWARD"
 skip_word Forward = codes "FORWARD"
 
+-- the values, each of which has a word
+abbrev pub frequencies : List Frequency
+frequencies = Yearly ∷ Monthly ∷ Weekly ∷ Daily ∷ []
+
+abbrev pub skips : List Skip
+skips = Omit ∷ Backward ∷ Forward ∷ []
+
+abbrev pub weekdays : List Weekday
+weekdays = Monday ∷ Tuesday ∷ Wednesday ∷ Thursday ∷ Friday ∷ Saturday ∷ Sunday ∷ []
+
 abbrev pub frequency_read : List ℕ → Option Frequency
-frequency_read bs = word_read frequency_word (Yearly ∷ Monthly ∷ Weekly ∷ Daily ∷ []) bs
+frequency_read bs = word_read frequency_word frequencies bs
 
 abbrev pub skip_read : List ℕ → Option Skip
-skip_read bs = word_read skip_word (Omit ∷ Backward ∷ Forward ∷ []) bs
+skip_read bs = word_read skip_word skips bs
 
 abbrev pub weekday_read : List ℕ → Option Weekday
-weekday_read bs = word_read letters (Monday ∷ Tuesday ∷ Wednesday ∷ Thursday ∷ Friday ∷ Saturday ∷ Sunday ∷ []) bs
+weekday_read bs = word_read letters weekdays bs

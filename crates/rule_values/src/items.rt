@@ -22,33 +22,27 @@ impl Stop for Letter {
     }
 }
 
-// The text from its first letter on.
+// The text from its first letter on. By hand, since a chain ends in an iterator, and what reads on takes a `Bytes`.
 fn from_letters<B: Bytes>(text: B) -> B
     ensures { B.Bytes.left result ≡ lettered (B.Bytes.left text) }
 {
     let mut rest = text;
     let mut here = text;
-    while let Some(b) = rest.next() {
-        if b.is_ascii_alphabetic() {
-            return here;
-        }
+    while rest.next().is_some_and(|b| !b.is_ascii_alphabetic()) {
         here = rest;
     }
     here
 }
 
 // Whether L stands after a month's number; nothing, if something else does.
+// Beside read_which: one function of both with a closure would need clauses longer than they are.
 fn read_leap<B: Bytes>(text: B) -> Option<bool>
     ensures { result ≡ leap_read (B.Bytes.left text) }
 {
     let mut first = text;
-    if first.next().is_none() {
-        Some(false)
-    } else if reads(text, b"L") {
-        Some(true)
-    } else {
-        None
-    }
+    first
+        .next()
+        .map_or(Some(false), |_| reads(text, b"L").then_some(true))
 }
 
 // The number before a weekday, if there is one.
@@ -56,10 +50,9 @@ fn read_which<B: Bytes>(text: B) -> Option<Option<Position>>
     ensures { result ≡ which_read (B.Bytes.left text) }
 {
     let mut first = text;
-    if first.next().is_none() {
-        return Some(None);
-    }
-    read_position(text, 53).map(Some)
+    first
+        .next()
+        .map_or(Some(None), |_| read_position(text, 53).map(Some))
 }
 
 impl Form for MonthCode {

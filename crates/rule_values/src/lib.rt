@@ -10,4 +10,4 @@ mod words;
 
 pub use form::Form;
 pub use values::{LastDay, Number, ScaleName};
-pub use words::{Word, read_word};
+pub use words::Word;

@@ -2,34 +2,37 @@
 ghost use Rattle.std.specs.Prelude.{◌≡◌, ◌≤◌, IfSome};
 ghost use Rattle.rule_values.specs.Numbers.{number_read, number_to, position_read};
 
+use crate::lists::copy_bytes;
 use rules::Position;
+use short_lists::ShortList;
 use text::Bytes;
 
+// The number that one to four digits write.
+// A loop: the closure of a fold knows no bound on the number so far, and would have to check each step.
 fn read_digits<B: Bytes>(text: B) -> Option<u16>
     ensures { result ≡ number_read (B.Bytes.left text) }
 {
-    let mut text = text;
+    let digits: ShortList<u8, 4> = copy_bytes(text)?;
+    if digits.is_empty() {
+        return None;
+    }
     let mut n: u16 = 0;
-    let mut read: usize = 0;
-    while let Some(b) = text.next() {
-        if read == 4 {
-            return None;
-        }
+    for b in digits.items() {
         if !b.is_ascii_digit() {
             return None;
         }
         n = n * 10 + u16::from(b - b'0');
-        read += 1;
     }
-    if read == 0 { None } else { Some(n) }
+    Some(n)
 }
 
 // A number from 1 to `most`.
 pub fn read_number<B: Bytes>(text: B, most: u16) -> Option<u16>
     ensures exact { result ≡ number_to most (B.Bytes.left text) }
+    ensures positive { IfSome result (λ n. 1 ≤ n) }
     ensures bounded { IfSome result (λ n. n ≤ most) }
 {
-    read_digits(text).filter(|&n| 1 <= n && n <= most)
+    read_digits(text).filter(|n| (1..=most).contains(n))
 }
 
 // The same for a bound that fits a byte.

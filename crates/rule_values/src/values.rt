@@ -1,14 +1,36 @@
 // The values of the parts.
-ghost use Rattle.std.specs.Prelude.{◌≡◌};
+ghost use Rattle.std.specs.Prelude.{◌≡◌, ◌≤◌, ℕ};
 
 use short_lists::ShortList;
+use std::marker::Model;
 
 mod read;
 
-// A number from 1 to MOST.
+// A number from 1 to MOST. Contracts see the number.
 #[derive(Clone, Copy)]
 pub struct Number<const MOST: u16> {
-    pub value: u16,
+    value: u16,
+}
+
+impl<const MOST: u16> Model for Number<MOST> {
+    ghost Value = { ℕ };
+
+    ghost view = { λ n. n.value };
+
+    ghost invariant = { λ n. (1 ≤ n.value) × (n.value ≤ MOST) };
+
+    ghost inverse = { λ n. record { value = n } };
+}
+
+impl<const MOST: u16> Number<MOST> {
+    // The number, which is within its bounds.
+    pub fn value(self) -> u16
+        ensures value { result ≡ self.entry }
+        ensures positive { 1 ≤ result }
+        ensures bounded { result ≤ MOST }
+    {
+        self.value
+    }
 }
 
 // The last day that a rule may give.

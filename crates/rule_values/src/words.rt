@@ -1,7 +1,7 @@
 // Values that are one of a few words.
 ghost use Rattle.std.specs.Prelude.{◌≡◌, ℕ, List};
 ghost use Rattle.days.specs.Numbers.{letters};
-ghost use Rattle.rule_values.specs.Words.{word_read, frequency_word, skip_word, frequency_read, skip_read, weekday_read};
+ghost use Rattle.rule_values.specs.Words.{word_read, frequency_word, skip_word, frequencies, skips, weekdays};
 
 use crate::form::Form;
 use days::weekday::Weekday;
@@ -9,25 +9,35 @@ use rules::{Frequency, Skip};
 use text::{Bytes, reads};
 
 // A value that a rule writes as one word.
-pub trait Word: Copy {
+pub trait Word: Copy + 'static {
     ghost spelling: { Self → List ℕ };
+
+    ghost values: { List Self };
 
     fn word(self) -> &'static str
         ensures { result.now ≡ spelling self };
+
+    // The values that are looked for.
+    fn all() -> &'static [Self]
+        ensures { result.now ≡ values };
 }
 
 // The first of the values whose word the text is.
-pub fn read_word<T: Word, B: Bytes>(text: B, values: &[T]) -> Option<T>
-    ensures { result ≡ word_read T.Word.spelling values.now (B.Bytes.left text) }
-{
-    values
-        .iter()
-        .copied()
-        .find(|value| reads(text, value.word().as_bytes()))
+impl<T: Word> Form for T {
+    ghost reading = { word_read T.Word.spelling T.Word.values };
+
+    fn read<B: Bytes>(text: B) -> Option<T> {
+        T::all()
+            .iter()
+            .copied()
+            .find(|value| reads(text, value.word().as_bytes()))
+    }
 }
 
 impl Word for Frequency {
     ghost spelling = { frequency_word };
+
+    ghost values = { frequencies };
 
     fn word(self) -> &'static str {
         match self {
@@ -37,10 +47,21 @@ impl Word for Frequency {
             Frequency::Daily => "DAILY",
         }
     }
+
+    fn all() -> &'static [Frequency] {
+        &[
+            Frequency::Yearly,
+            Frequency::Monthly,
+            Frequency::Weekly,
+            Frequency::Daily,
+        ]
+    }
 }
 
 impl Word for Skip {
     ghost spelling = { skip_word };
+
+    ghost values = { skips };
 
     fn word(self) -> &'static str {
         match self {
@@ -49,55 +70,30 @@ impl Word for Skip {
             Skip::Forward => "FORWARD",
         }
     }
+
+    fn all() -> &'static [Skip] {
+        &[Skip::Omit, Skip::Backward, Skip::Forward]
+    }
 }
 
 impl Word for Weekday {
     ghost spelling = { letters };
 
+    ghost values = { weekdays };
+
     fn word(self) -> &'static str {
         self.letters()
     }
-}
 
-impl Form for Frequency {
-    ghost reading = { frequency_read };
-
-    fn read<B: Bytes>(text: B) -> Option<Frequency> {
-        read_word(
-            text,
-            &[
-                Frequency::Yearly,
-                Frequency::Monthly,
-                Frequency::Weekly,
-                Frequency::Daily,
-            ],
-        )
-    }
-}
-
-impl Form for Skip {
-    ghost reading = { skip_read };
-
-    fn read<B: Bytes>(text: B) -> Option<Skip> {
-        read_word(text, &[Skip::Omit, Skip::Backward, Skip::Forward])
-    }
-}
-
-impl Form for Weekday {
-    ghost reading = { weekday_read };
-
-    fn read<B: Bytes>(text: B) -> Option<Weekday> {
-        read_word(
-            text,
-            &[
-                Weekday::Monday,
-                Weekday::Tuesday,
-                Weekday::Wednesday,
-                Weekday::Thursday,
-                Weekday::Friday,
-                Weekday::Saturday,
-                Weekday::Sunday,
-            ],
-        )
+    fn all() -> &'static [Weekday] {
+        &[
+            Weekday::Monday,
+            Weekday::Tuesday,
+            Weekday::Wednesday,
+            Weekday::Thursday,
+            Weekday::Friday,
+            Weekday::Saturday,
+            Weekday::Sunday,
+        ]
     }
 }

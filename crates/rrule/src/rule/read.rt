@@ -4,33 +4,29 @@ ghost use Rattle.rrule.specs.Questions.{rule_read};
 ghost use Rattle.rrule.specs.Result.{told};
 
 use super::RuleText;
-use super::made::rule_text;
-use super::questions::{month_days_allowed, numbers_allowed, one_limit, skip_with_scale};
 use crate::fault::RuleFault;
-use crate::named::well_parted;
-use crate::values::read_values;
+use crate::named::RuleParts;
+use crate::values::{WithFrequency, read_values};
 use text::Bytes;
 
 // The rule that the value of an RRULE says, or the first question that it fails.
 pub fn read_rule<B: Bytes>(value: B) -> Result<RuleText, RuleFault>
     ensures { told result ≡ rule_read (B.Bytes.left value) }
 {
-    if !well_parted(value) {
-        return Err(RuleFault::NotParts);
-    }
-    let values = read_values(value)?;
+    let values = read_values(&RuleParts::of(value)?)?;
     let frequency = values.frequency.ok_or(RuleFault::NoFrequency)?;
-    if !one_limit(&values) {
+    let asked = WithFrequency { values, frequency };
+    if !asked.one_limit() {
         return Err(RuleFault::CountAndUntil);
     }
-    if !skip_with_scale(&values) {
+    if !asked.skip_with_scale() {
         return Err(RuleFault::SkipWithoutScale);
     }
-    if !month_days_allowed(&values, frequency) {
+    if !asked.month_days_allowed() {
         return Err(RuleFault::MonthDaysInWeeks);
     }
-    if !numbers_allowed(&values, frequency) {
+    if !asked.numbers_allowed() {
         return Err(RuleFault::NumberedWeekdays);
     }
-    Ok(rule_text(&values, frequency))
+    Ok(asked.rule_text())
 }

@@ -8,16 +8,15 @@ use sources::Limit;
 pub fn interval_or_one(interval: Option<Number<999>>) -> u16
     ensures { result ≡ the_interval interval }
 {
-    interval.map_or(1, |number| number.value)
+    interval.map_or(1, |number| number.value())
 }
 
 // Where the rule ends: COUNT, UNTIL or nowhere.
 pub fn limit(count: Option<Number<9999>>, until: Option<LastDay>) -> Limit
     ensures { result ≡ the_limit count until }
 {
-    match (count, until) {
-        (Some(count), _) => Limit::Count(count.value),
-        (None, Some(last)) => Limit::Until(last.day),
-        (None, None) => Limit::Endless,
-    }
+    count
+        .map(|count| Limit::Count(count.value()))
+        .or_else(|| until.map(|last| Limit::Until(last.day)))
+        .unwrap_or(Limit::Endless)
 }

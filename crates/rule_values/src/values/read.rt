@@ -1,7 +1,8 @@
 // How the values of the parts are read.
 ghost use Rattle.std.specs.Prelude.{◌≡◌};
 ghost use Rattle.rules.specs.Parts.{each_of};
-ghost use Rattle.rule_values.specs.Values.{bounded_read, until_read, scale_byte, scale_read};
+ghost use Rattle.rule_values.specs.Numbers.{number_to};
+ghost use Rattle.rule_values.specs.Values.{until_read, scale_byte, scale_read};
 
 use super::{LastDay, Number, ScaleName};
 use crate::form::Form;
@@ -11,7 +12,7 @@ use short_lists::ShortList;
 use text::{Bytes, read_day};
 
 impl<const MOST: u16> Form for Number<MOST> {
-    ghost reading = { bounded_read MOST };
+    ghost reading = { number_to MOST };
 
     fn read<B: Bytes>(text: B) -> Option<Number<MOST>> {
         let value = read_number(text, MOST)?;
@@ -27,7 +28,8 @@ impl Form for LastDay {
     }
 }
 
-// Whether every byte may stand in the name of a calendar. Crate lines asks the same of other names, and is not below.
+// Whether every byte may stand in the name of a calendar.
+// Names of lines and of calendars have the same bytes by chance: each definition says its own.
 fn in_scale_names(name: &[u8]) -> bool
     ensures { result ≡ each_of scale_byte name.now }
 {

@@ -1,22 +1,17 @@
-use Rattle.std.proofs.Common.{sym, ◌∙◌, arith}
+-- The check does not find these: a text with a separator is cut there, and its first part comes off.
+use Rattle.std.proofs.Common.{arith}
 use Rattle.std.proofs.lemmas.Bool.Decides.{nat_tests}
-use Rattle.rrule.specs.Named.{none_twice}
-use Rattle.rule_values.proofs.Pieces.{at_first, past_less}
-use Rattle.rrule.proofs.Twice.{again, not_again}
+use Rattle.text.proofs.Cutting.{cut}
 use Rattle.rrule.proofs.named.none_twice.Goals as goal
 
-pub returns-then-not-skip_past : goal.returns-then-not-skip_past
-returns-then-not-skip_past g c = let e = at_first none_twice 59 (g.B.Bytes.left c.loop-rest.rest) in grind (arith, nat_tests)
-
 pub returns-then-some_named : goal.returns-then-some_named
-returns-then-some_named g c =
-    sym (again (g.B.Bytes.left c.loop-rest.rest) _ _ _ (sym c.if-not-skip_past.ensures.found) c.skip_past.ensures.rest c.new.ensures c.new-name.ensures (sym c.if-some_named.ensures))
-    ∙ c.loop-rest.invariant
+returns-then-some_named g c = let e = cut 59 (g.B.Bytes.left c.loop-others.rest) in let h = c.in-Some.ensures in grind (arith, nat_tests)
 
-pub loop-rest-smaller : goal.loop-rest-smaller
-loop-rest-smaller g c = let e = past_less 59 (g.B.Bytes.left c.loop-rest.rest) in grind arith
+pub loop-others-smaller : goal.loop-others-smaller
+loop-others-smaller g c = let e = cut 59 (g.B.Bytes.left c.loop-others.rest) in let h = c.in-Some.ensures in grind (arith, nat_tests)
 
-pub loop-rest-preserved : goal.loop-rest-preserved
-loop-rest-preserved g c =
-    not_again (g.B.Bytes.left c.loop-rest.rest) _ _ _ (sym c.if-not-skip_past.ensures.found) c.skip_past.ensures.rest c.new.ensures c.new-name.ensures (sym c.if-some_named.ensures)
-    ∙ c.loop-rest.invariant
+pub loop-others-preserved : goal.loop-others-preserved
+loop-others-preserved g c = let e = cut 59 (g.B.Bytes.left c.loop-others.rest) in let h = c.in-Some.ensures in grind (arith, nat_tests)
+
+pub returns : goal.returns
+returns g c = let e = cut 59 (g.B.Bytes.left c.loop-others.rest) in grind (arith, nat_tests)
