@@ -1,4 +1,5 @@
 -- An event that passes every question, and the record that keeps it.
+-- The library has no lemmas of verdicts, and the check does not go through the definition by itself.
 use Rattle.std.proofs.Common.{◌≡◌, ℕ, List, Some, None, Ok, Err, codes, Option, Result, sym, subst}
 use Rattle.calendar.specs.Sheets.{Almanac}
 use Rattle.components.specs.Events.{Event, picked}

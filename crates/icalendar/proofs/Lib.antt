@@ -1,5 +1,4 @@
 pub mod Names
-pub mod Last
 pub mod Ruled
 pub mod Accepting
 pub mod Reading

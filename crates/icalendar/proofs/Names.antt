@@ -1,11 +1,13 @@
 -- The first calendar that bears a name, by the shelf's search and by the definition.
-use Rattle.std.proofs.Common.{◌≡◌, ℕ, zero, suc, ◌-◌, true, false, eqb, List, [], ◌∷◌, map, Some, None, Option, sym, refl, ap, ◌∙◌, ⊎_elim, arith}
+-- The check does not find it: the search compares small letters, the definition capitals.
+use Rattle.std.proofs.Common.{◌≡◌, ℕ, zero, suc, ◌+◌, true, false, List, [], ◌∷◌, map, Some, None, Option, sym, refl, ap, ◌∙◌, ⊎_elim, subst, arith}
 use Rattle.std.specs.Char.{to_ascii_uppercase, to_ascii_lowercase}
 use Rattle.std.proofs.lemmas.Bool.{cond-true, cond-false, cases_Bool, and_parts, and_from, eqb-true, eq-eqb}
 use Rattle.std.proofs.lemmas.Bool.Decides.{nat_tests}
 use Rattle.text.specs.Letters.{alike, same}
 use Rattle.calendar.specs.Sheets.{Almanac}
 use Rattle.calendar.specs.Shelves.{almanac_at, Bears, Found}
+use Rattle.calendar.specs.Places.{at_next}
 use Rattle.icalendar.specs.Verdicts.{place_named, further}
 
 -- a letter is the same in capitals exactly if it is the same in small letters
@@ -37,9 +39,8 @@ low_same (x ∷ xs) (y ∷ ys) h =
 -- a further place stands in the rest of the shelf
 later : (a : Almanac) (more : List Almanac) (i : ℕ) → almanac_at (a ∷ more) (suc i) ≡ almanac_at more i
 later a more i =
-    let no : eqb (suc i) 0 ≡ false = grind (arith, nat_tests) in
-    let less : suc i - 1 ≡ i = omega arith in
-    cond-false (eqb (suc i) 0) a (almanac_at more (suc i - 1)) no ∙ ap (almanac_at more) less
+    let next : i + 1 ≡ suc i = omega arith in
+    subst (λ k. almanac_at (a ∷ more) k ≡ almanac_at more i) next (at_next a more i)
 
 next_bears : (a : Almanac) (more : List Almanac) (name : List ℕ) (i : ℕ) → Bears (a ∷ more) name (suc i) → Bears more name i
 next_bears a more name i b = record { within = omega (arith, b.within); same = ap (λ x. map to_ascii_lowercase x.name) (sym (later a more i)) ∙ b.same }

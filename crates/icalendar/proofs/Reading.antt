@@ -1,4 +1,4 @@
--- Reading a file event by event.
+-- Reading a file event by event. The library has no lemmas of verdicts.
 use Rattle.std.proofs.Common.{◌≡◌, ℕ, List, [], ◌∷◌, ◌++◌, map, length, Some, None, Ok, Option, Result, sym, refl, ap, ◌∙◌, arith}
 use lib.Seq.{append_snoc}
 use Rattle.calendar.specs.Sheets.{Almanac}

@@ -1,9 +1,13 @@
 -- A rule that is read, and what is asked of its calendar.
-use Rattle.std.proofs.Common.{◌≡◌, ℕ, List, ◌∷◌, Some, Ok, Err, Option, Result, sym, ap, subst}
+use Rattle.std.proofs.Common.{◌≡◌, ℕ, List, Some, None, Ok, Err, Option, Result, MatchOption, sym, refl, ap, subst}
 use Rattle.calendar.specs.Sheets.{Almanac}
 use Rattle.lines.specs.Lines.{Line}
 use Rattle.lines.specs.Property.{value}
+use Rattle.std.specs.Iterator.{YieldsFirstBy}
+use Rattle.std.specs.Option.{IsSomeAnd, option_transpose}
 use Rattle.std.specs.Result.{MatchResult, IsErrAnd}
+use Rattle.lines.specs.declared.cursor.Cursor.{Cursor}
+use Rattle.lines.specs.View.{line_of}
 use Rattle.rrule.specs.Rule.{Said}
 use Rattle.rrule.specs.Questions.{rule_read}
 use Rattle.rrule.specs.declared.fault.RuleFault.{RuleFault}
@@ -36,18 +40,19 @@ on_line shelf start l r a e h =
 
 -- ── the rule among an event's lines ──
 
-abbrev pub some_read : Result Recurrence Fault → Result (Option Recurrence) Fault
-some_read (Ok r) = Ok (Some r)
-some_read (Err f) = Err f
-
-some_ruled : (shelf : List Almanac) (start : ℕ) (a : Result Recurrence Fault) (d : Result Ruled Fault) → Rules shelf start a d → RulesOrNone shelf start (some_read a) (some_rule d)
+some_ruled : (shelf : List Almanac) (start : ℕ) (a : Result Recurrence Fault) (d : Result Ruled Fault) → Rules shelf start a d → RulesOrNone shelf start (option_transpose (Some a)) (some_rule d)
 some_ruled shelf start (Ok r) (Ok u) h = h
 some_ruled shelf start (Ok r) (Err f) h = absurd h
 some_ruled shelf start (Err f) (Ok u) h = absurd h
 some_ruled shelf start (Err f) (Err k) h = h
 
-pub among : (shelf : List Almanac) (start : ℕ) (ps ls : List Line) (l : Line) (a : Result Recurrence Fault) → ps ≡ l ∷ ls → Rules shelf start a (rule_on shelf start l) → RulesOrNone shelf start (some_read a) (rule_among shelf start ps)
-among shelf start ps ls l a e h = subst (λ (qs : List Line). RulesOrNone shelf start (some_read a) (rule_among shelf start qs)) (sym e) (some_ruled shelf start a (rule_on shelf start l) h)
+module _ (shelf : List Almanac) (start : ℕ) (Post : Cursor → Result Recurrence Fault → Type 0) (says : (line : Cursor) (a : Result Recurrence Fault) → Post line a → Rules shelf start a (rule_on shelf start (line_of line))) where
+  -- the first of the lines that are left is read, if there is one
+  pub among : (ps later : List Line) (first : Option Cursor) (read : Option (Result Recurrence Fault)) → YieldsFirstBy line_of (λ s. s) ps first later
+      → MatchOption first (read ≡ None) (λ line. IsSomeAnd read (Post line)) → RulesOrNone shelf start (option_transpose read) (rule_among shelf start ps)
+  among ps later None read from none = rw (none, from.0) (refl, tt)
+  among ps later (Some line) None from post = absurd post
+  among ps later (Some line) (Some a) from post = subst (λ (qs : List Line). RulesOrNone shelf start (option_transpose (Some a)) (rule_among shelf start qs)) (sym from) (some_ruled shelf start a (rule_on shelf start (line_of line)) (says line a post))
 
 -- ── what a closure that names the place makes of a question ──
 

@@ -4,7 +4,8 @@ use Rattle.calendar.specs.Sheets.{Almanac}
 use Rattle.series.specs.declared.record.Series.{Series}
 use Rattle.series.specs.Record.{Accepted}
 use Rattle.icalendar.specs.declared.fault.Fault.{Fault}
-use Rattle.icalendar.specs.declared.file.FileQuestion.{FileQuestion}
+use Rattle.icalendar.specs.declared.read.ReadError.{ReadError}
+use Rattle.icalendar.specs.declared.read.ReadError.TheVariants.{Refused, OutOfMemory}
 use Rattle.icalendar.specs.Files.{file_read, events_of}
 use Rattle.icalendar.specs.Verdicts.{Says, verdicts}
 
@@ -15,6 +16,8 @@ AllSay shelf [] (y ∷ ys) = ⊥
 AllSay shelf (x ∷ xs) [] = ⊥
 AllSay shelf (x ∷ xs) (y ∷ ys) = Says shelf x y × AllSay shelf xs ys
 
-abbrev pub Reads : {Z : Type 0} → List Almanac → ℕ → List ℕ → Result (Vec (Result Series Fault) Z) FileQuestion → Type 0
+-- the events of a file that fails no question, or the first that it fails; nothing where memory ran out
+abbrev pub Reads : {Z : Type 0} → List Almanac → ℕ → List ℕ → Result (Vec (Result Series Fault) Z) ReadError → Type 0
 Reads shelf number bs (Ok v) = (file_read bs ≡ Ok (length (events_of bs))) × AllSay shelf (vec_items v) (verdicts shelf number bs)
-Reads shelf number bs (Err q) = file_read bs ≡ Err q
+Reads shelf number bs (Err (Refused q)) = file_read bs ≡ Err q
+Reads shelf number bs (Err (OutOfMemory e)) = Unit {0}

@@ -3,7 +3,7 @@ use rrule::RuleFault;
 use vevent::{EventFault, EventQuestion};
 
 // What a rule is asked about its calendar, each case named for what is wanted.
-#[derive(Clone, Copy)]
+#[derive(Clone, Copy, Debug, PartialEq, Eq)]
 pub enum CalendarQuestion {
     // the shelf has a calendar of the name
     OnShelf,
@@ -14,15 +14,17 @@ pub enum CalendarQuestion {
 }
 
 // A failed question, by its layer.
-#[derive(Clone, Copy)]
+#[derive(Clone, Copy, Debug, PartialEq, Eq)]
 pub enum Failed {
     Event(EventQuestion),
     Rule(RuleFault),
     Calendar(CalendarQuestion),
 }
 
-// The first question that an event fails, and the place of the line that fails it.
-#[derive(Clone, Copy)]
+// The first question that an event fails, and the place of the line that fails it. A type of its own beside
+// EventFault: no crate may write `From` between two instances of another's generic type, and `?` would need a `map_err`
+// in its place.
+#[derive(Clone, Copy, Debug, PartialEq, Eq)]
 pub struct Fault {
     pub place: usize,
     pub failed: Failed,

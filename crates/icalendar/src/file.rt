@@ -9,7 +9,7 @@ use lines::{all_well_formed, well_ended};
 pub const MOST_BYTES: usize = 60000;
 
 // What a file is asked, each case named for what is wanted.
-#[derive(Clone, Copy)]
+#[derive(Clone, Copy, Debug, PartialEq, Eq)]
 pub enum FileQuestion {
     // at most 60,000 bytes
     Size,

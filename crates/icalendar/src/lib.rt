@@ -5,9 +5,11 @@ mod fault;
 mod file;
 mod read;
 mod rule;
+#[cfg(test)]
+mod tests;
 mod verdict;
 
 pub use fault::{CalendarQuestion, Failed, Fault};
 pub use file::{FileQuestion, check_file};
-pub use read::read_file;
+pub use read::{ReadError, read_file};
 pub use verdict::read_event;

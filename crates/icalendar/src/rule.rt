@@ -15,49 +15,31 @@ use rule_values::ScaleName;
 use series::Recurrence;
 use sources::{Ending, Limit, Source};
 
-// The place of the first calendar that bears a name.
-fn find_calendar<S: Shelf>(shelf: &S, name: &[u8]) -> Option<usize>
-    ensures { result ≡ place_named (S.Shelf.held shelf.now) name.now }
-{
-    shelf.find(name)
-}
-
 // The place of the calendar that a rule asks for.
 fn calendar_asked<S: Shelf>(shelf: &S, scale: Option<ScaleName>) -> Option<usize>
     ensures { result ≡ place_named (S.Shelf.held shelf.now) (name_asked scale) }
 {
-    match scale {
-        Some(name) => find_calendar(shelf, name.bytes()),
-        None => find_calendar(shelf, b"gregorian"),
-    }
-}
-
-// Whether a calendar has a month code.
-fn code_known<S: Shelf>(shelf: &S, place: usize, code: MonthCode) -> bool
-    ensures { result ≡ code_known (almanac_at (S.Shelf.held shelf.now) place) code }
-{
-    if code.leap {
-        shelf.states_leap(place, code.number)
-    } else {
-        code.number <= shelf.top(place)
-    }
+    shelf.find(scale.as_ref().map_or(b"gregorian", |name| name.bytes()))
 }
 
 // Whether a calendar has each of the codes.
 fn codes_known<S: Shelf>(shelf: &S, place: usize, codes: &[MonthCode]) -> bool
     ensures { result ≡ each_of (code_known (almanac_at (S.Shelf.held shelf.now) place)) codes.now }
 {
-    codes.iter().all(|code| code_known(shelf, place, *code))
+    codes.iter().all(|code| {
+        if code.leap {
+            shelf.states_leap(place, code.number)
+        } else {
+            code.number <= shelf.top(place)
+        }
+    })
 }
 
 // Whether a day is not after UNTIL.
 fn within_until(limit: Limit, day: u32) -> bool
     ensures { result ≡ within_until limit day }
 {
-    match limit {
-        Limit::Until(last) => day <= last,
-        Limit::Endless | Limit::Count(_) => true,
-    }
+    !matches!(limit, Limit::Until(last) if last < day)
 }
 
 // Whether the rule gives DTSTART's own day.

@@ -8,14 +8,16 @@ abbrev pub filled : {X : Type 0} → ℕ → List X → List X → List X
 filled n xs ys = xs ++ take (n - length xs) ys
 
 -- one more, from the front of what comes
-pub one_more : {X : Type 0} (n : ℕ) (xs : List X) (x : X) (ys rest : List X) → length xs < n → ys ≡ x ∷ rest → filled n (xs ++ x ∷ []) rest ≡ filled n xs ys
-one_more n xs x ys rest room e =
+pub grown : {X : Type 0} (n : ℕ) (xs zs : List X) (x : X) (ys rest : List X) → length xs < n → zs ≡ xs ++ x ∷ [] → ys ≡ x ∷ rest → filled n zs rest ≡ filled n xs ys
+grown n xs zs x ys rest room added e =
     let k : n - length xs ≡ suc (n - (length xs + 1)) = omega arith in
-    append_snoc xs x (take (n - length (xs ++ x ∷ [])) rest) ∙ ap (λ m. xs ++ (x ∷ take (n - m) rest)) (length_push xs x)
-    ∙ sym (ap (λ (zs : List _). xs ++ take (n - length xs) zs) e ∙ ap (λ m. xs ++ take m (x ∷ rest)) k)
+    ap (λ (ls : List _). filled n ls rest) added
+    ∙ append_snoc xs x (take (n - length (xs ++ x ∷ [])) rest) ∙ ap (λ m. xs ++ (x ∷ take (n - m) rest)) (length_push xs x)
+    ∙ sym (ap (λ (ls : List _). xs ++ take (n - length xs) ls) e ∙ ap (λ m. xs ++ take m (x ∷ rest)) k)
 
-pub full : {X : Type 0} (n : ℕ) (xs ys : List X) → n ≤ length xs → filled n xs ys ≡ xs
-full n xs ys h = let k : n - length xs ≡ 0 = omega arith in ap (λ m. xs ++ take m ys) k ∙ append-nil xs
+-- a list that is full takes nothing of what comes
+pub full : {X : Type 0} (n : ℕ) (xs zs ys : List X) → n ≤ length xs → zs ≡ xs → zs ≡ filled n xs ys
+full n xs zs ys h same = let k : n - length xs ≡ 0 = omega arith in same ∙ sym (ap (λ m. xs ++ take m ys) k ∙ append-nil xs)
 
 take_twice : {X : Type 0} (k : ℕ) (a b : List X) → take k a ++ take (k - length (take k a)) b ≡ take k (a ++ b)
 take_twice zero a b = refl

@@ -1,2 +1,1 @@
 pub mod Filling
-pub mod Passed

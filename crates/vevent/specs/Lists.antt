@@ -1,5 +1,5 @@
 -- Lists of dates between commas.
-use Rattle.std.specs.Prelude.{ℕ, ◌-◌, Bool, true, cond, ◌&&◌, List, [], ◌∷◌, ◌++◌, is_some, Some, None, Option, nat_le}
+use Rattle.std.specs.Prelude.{ℕ, ◌-◌, Bool, cond, List, [], ◌∷◌, ◌++◌, is_some, Some, None, Option, nat_le}
 use Rattle.std.specs.List.{list_all}
 use Rattle.days.specs.Numbers.{in_range}
 use Rattle.text.specs.Dates.{day_in}

@@ -1,10 +1,10 @@
 -- The questions on an event's own lines, in their order: each gives the place of the line that fails it, or none.
-use Rattle.std.specs.Prelude.{◌≡◌, ℕ, min, Bool, cond, ◌&&◌, List, [], ◌∷◌, length, is_some, Some, None, Ok, Err, codes, Option, Result}
+use Rattle.std.specs.Prelude.{ℕ, min, Bool, cond, ◌&&◌, not, List, [], ◌∷◌, length, is_some, Some, None, Ok, Err, codes, Option, Result}
+use Rattle.std.specs.List.{find}
+use Rattle.std.specs.Option.{option_map}
 use Rattle.text.specs.Dates.{day_in}
 use Rattle.text.specs.Pieces.{pieces}
-use Rattle.lines.specs.declared.cursor.Cursor.{Cursor}
 use Rattle.lines.specs.Lines.{Line}
-use Rattle.lines.specs.View.{text}
 use Rattle.lines.specs.Property.{date_valued, value}
 use Rattle.components.specs.Events.{Event, picked}
 use Rattle.vevent.specs.declared.questions.EventQuestion.{EventQuestion}
@@ -27,14 +27,9 @@ sooner None q = q
 sooner (Some p) None = Some p
 sooner (Some p) (Some q) = Some (min p q)
 
--- a question to a line, asked in code, is a test of its text
-abbrev pub Tests : (Cursor → Bool → Type 0) → (List ℕ → Bool) → Type 0
-Tests answers test = (line : Cursor) (b : Bool) → answers line b → b ≡ test (text line)
-
 -- where the first line stands whose text fails a test
 abbrev pub first_failing : (List ℕ → Bool) → List Line → Option ℕ
-first_failing test [] = None
-first_failing test (l ∷ ls) = cond (test l.text) (first_failing test ls) (Some l.place)
+first_failing test ls = option_map (λ l. l.place) (find (λ l. not (test l.text)) ls)
 
 -- the day that a line names by VALUE=DATE and a real date
 abbrev pub date_of_line : List ℕ → Option ℕ
@@ -120,6 +115,6 @@ number DateLists = 25
 number FewDates = 26
 number NothingReplaced = 27
 
-abbrev pub verdict : Result (Unit {0}) EventFault → Option EventFault
-verdict (Ok u) = None
+abbrev pub verdict : {T : Type 0} → Result T EventFault → Option EventFault
+verdict (Ok t) = None
 verdict (Err f) = Some f

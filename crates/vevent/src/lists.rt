@@ -25,6 +25,7 @@ pub fn is_day_list<B: Bytes>(list: B) -> bool
 pub fn room_after<B: Bytes>(list: B, room: usize) -> Option<usize>
     ensures { result ≡ room_after room (length (pieces 44 (B.Bytes.left list))) }
 {
+    // Not by `count`, whose proof wants to know that the pieces of any text are fewer than 2^64.
     let mut room = room;
     for _ in Pieces::of(list, b',') {
         room = room.checked_sub(1)?;
@@ -36,6 +37,7 @@ pub fn room_after<B: Bytes>(list: B, room: usize) -> Option<usize>
 pub fn add_days<B: Bytes, const N: usize>(days: &mut ShortList<u32, N>, list: B)
     ensures { days.new ≡ days.old ++ take (N - length days.old) (days_among (pieces 44 (B.Bytes.left list))) }
 {
+    // As a `for` over `filter_map` the proof does not close: antt refuses what the check itself states of its iterator.
     for date in Pieces::of(list, b',') {
         if let Some(day) = ranged_day(date) {
             if days.push(day).is_err() {

@@ -1,18 +1,17 @@
 // The questions on an event's own lines.
-ghost use Rattle.std.specs.Prelude.{◌≡◌, ℕ, Bool, List, is_some, Some, None};
-ghost use Rattle.lines.specs.View.{text};
-ghost use Rattle.components.specs.Events.{event_at, picked};
-ghost use Rattle.vevent.specs.Lists.{if_ranged};
-ghost use Rattle.vevent.specs.Questions.{first_place, second_place, sooner, date_of_line, lists_days, Tests, first_failing, first_too_many, one_start, start_date, start_in_range, one_rule, date_lists, few_dates, nothing_replaced, verdict, first_failed, asked};
+ghost use Rattle.std.specs.Prelude.{◌≡◌, [], ◌∷◌, IfOk, IfErr, Some, None};
+ghost use Rattle.lines.specs.View.{text, line_of};
+ghost use Rattle.vevent.specs.Kept.{start_of};
+ghost use Rattle.vevent.specs.Questions.{first_place, second_place, sooner, date_of_line, lists_days, first_failing, first_too_many, starts, lone, one_start, start_date, start_in_range, one_rule, date_lists, few_dates, nothing_replaced, verdict, first_failed, asked};
 
+use crate::event::{EventLines, NamedLines};
 use crate::lists::{is_day_list, room_after};
-use components::next_named;
-use days::in_range;
+use days::RangeDay;
 use lines::{Cursor, is_date, value_of};
 use text::read_day;
 
 // What an event's own lines are asked, each case named for what is wanted.
-#[derive(Clone, Copy, Debug, PartialEq)]
+#[derive(Clone, Copy, Debug, PartialEq, Eq)]
 pub enum EventQuestion {
     // just one DTSTART
     OneStart,
@@ -31,34 +30,32 @@ pub enum EventQuestion {
 }
 
 // A question that an event fails, and the place of the line that fails it.
-#[derive(Clone, Copy, Debug, PartialEq)]
+#[derive(Clone, Copy, Debug, PartialEq, Eq)]
 pub struct EventFault {
     pub place: usize,
     pub question: EventQuestion,
 }
 
-// Where the first own line named `name` stands.
-fn first_place(event: Cursor, name: &[u8]) -> Option<usize>
-    ensures { result ≡ first_place (picked name.now (event_at event.entry).lines) }
+// Where the first of an event's lines of a name stands.
+fn first_place(mut lines: NamedLines) -> Option<usize>
+    ensures { result ≡ first_place lines.entry }
 {
-    next_named(event, name).map(|line| line.place())
+    lines.next().map(|line| line.place())
 }
 
 // Where the second stands.
-fn second_place(event: Cursor, name: &[u8]) -> Option<usize>
-    ensures { result ≡ second_place (picked name.now (event_at event.entry).lines) }
+fn second_place(mut lines: NamedLines) -> Option<usize>
+    ensures { result ≡ second_place lines.entry }
 {
-    first_place(next_named(event, name)?, name)
+    lines.nth(1).map(|line| line.place())
 }
 
-// The earlier of two places.
+// The earlier of two places. Called thrice: a function of two names and a closure is no plainer, as few_dates has two
+// rooms besides.
 fn earlier_place(one: Option<usize>, other: Option<usize>) -> Option<usize>
     ensures { result ≡ sooner one other }
 {
-    match (one, other) {
-        (Some(p), Some(q)) => Some(p.min(q)),
-        _ => one.or(other),
-    }
+    one.into_iter().chain(other).min()
 }
 
 // The day that a line names by VALUE=DATE and a real date.
@@ -80,117 +77,111 @@ fn lists_days(line: Cursor) -> bool
     is_date(line) && is_day_list(value_of(line))
 }
 
-// Where the first own line named `name` stands that does not pass.
-fn first_failing<'a, F: Fn(Cursor<'a>) -> bool>(
-    event: Cursor<'a>,
-    name: &[u8],
-    passes: F,
-) -> Option<usize>
-    requires { F.IsAlwaysCallable passes }
-    ensures { (test : List ℕ → Bool) → Tests (F.post passes) test → result ≡ first_failing test (picked name.now (event_at event.entry).lines) }
+// Where the first line stands that does not list days.
+fn first_failing(mut lines: NamedLines) -> Option<usize>
+    ensures { result ≡ first_failing lists_days lines.entry }
 {
-    let mut last = event;
-    while let Some(line) = next_named(last, name) {
-        if !passes(line) {
-            return Some(line.place());
-        }
-        last = line;
-    }
-    None
+    lines
+        .find(|line| !lists_days(*line))
+        .map(|line| line.place())
 }
 
-// Where the own line named `name` stands that has the first date beyond `room`.
-fn first_too_many(event: Cursor, name: &[u8], room: usize) -> Option<usize>
-    ensures { result ≡ first_too_many room (picked name.now (event_at event.entry).lines) }
+// Where the line stands that has the first date beyond `room`.
+fn first_too_many(lines: NamedLines, room: usize) -> Option<usize>
+    ensures { result ≡ first_too_many room lines.entry }
 {
-    let mut last = event;
+    // A walk that carries the room along: as `find` or `fold` the room would be a second value beside the place.
     let mut room = room;
-    while let Some(line) = next_named(last, name) {
+    for line in lines {
         let Some(left) = room_after(value_of(line), room) else {
             return Some(line.place());
         };
         room = left;
-        last = line;
     }
     None
 }
 
-// Just one DTSTART?
-fn one_start(event: Cursor) -> Option<usize>
-    ensures { result ≡ one_start (event_at event.entry) }
+// The line of the one DTSTART.
+fn start_line<'a>(event: &EventLines<'a>) -> Result<Cursor<'a>, EventFault>
+    ensures one { IfOk result (λ line. starts event.now ≡ line_of line ∷ []) }
+    ensures failed { IfErr result (λ fault. first_failed asked event.now ≡ Some fault) }
 {
-    next_named(event, b"DTSTART").map_or(Some(event.place()), |first| {
-        first_place(first, b"DTSTART")
+    let mut starts = event.named(b"DTSTART");
+    let first = starts.next().ok_or(EventFault {
+        place: event.place(),
+        question: EventQuestion::OneStart,
+    })?;
+    let second = starts.next().map(|line| line.place());
+    unless(second, EventQuestion::OneStart)?;
+    Ok(first)
+}
+
+// The day in the range that the one DTSTART names.
+fn start_day(event: &EventLines) -> Result<RangeDay, EventFault>
+    ensures one { IfOk result (λ _. one_start event.now ≡ None) }
+    ensures dated { IfOk result (λ _. start_date event.now ≡ None) }
+    ensures within { IfOk result (λ _. start_in_range event.now ≡ None) }
+    ensures start { IfOk result (λ start. start_of event.now ≡ Some start) }
+    ensures failed { IfErr result (λ fault. first_failed asked event.now ≡ Some fault) }
+{
+    let line = start_line(event)?;
+    let place = line.place();
+    let date = date_of_line(line).ok_or(EventFault {
+        place,
+        question: EventQuestion::StartDate,
+    })?;
+    RangeDay::new(date).ok_or(EventFault {
+        place,
+        question: EventQuestion::StartInRange,
     })
 }
 
-// Has DTSTART VALUE=DATE and a real date?
-fn start_date(event: Cursor) -> Option<usize>
-    ensures { result ≡ start_date (event_at event.entry) }
-{
-    first_failing(event, b"DTSTART", |line| date_of_line(line).is_some())
-}
-
-// Whether a line names a day in the range.
-fn names_ranged(line: Cursor) -> bool
-    ensures { result ≡ is_some (if_ranged (date_of_line (text line.entry))) }
-{
-    date_of_line(line).is_some_and(in_range)
-}
-
-// Is it in the range?
-fn start_in_range(event: Cursor) -> Option<usize>
-    ensures { result ≡ start_in_range (event_at event.entry) }
-{
-    first_failing(event, b"DTSTART", names_ranged)
-}
-
-// Does each RDATE and EXDATE line list days?
-fn date_lists(event: Cursor) -> Option<usize>
-    ensures { result ≡ date_lists (event_at event.entry) }
+// Where the earliest RDATE or EXDATE line stands that does not list days.
+fn date_lists(event: &EventLines) -> Option<usize>
+    ensures { result ≡ date_lists event.now }
 {
     earlier_place(
-        first_failing(event, b"RDATE", lists_days),
-        first_failing(event, b"EXDATE", lists_days),
+        first_failing(event.named(b"RDATE")),
+        first_failing(event.named(b"EXDATE")),
     )
 }
 
-// Are there at most 16 RDATE and 32 EXDATE dates?
-fn few_dates(event: Cursor) -> Option<usize>
-    ensures { result ≡ few_dates (event_at event.entry) }
+// Where the earlier of the lines stands that have the first of more than 16 RDATE or 32 EXDATE dates.
+fn few_dates(event: &EventLines) -> Option<usize>
+    ensures { result ≡ few_dates event.now }
 {
     earlier_place(
-        first_too_many(event, b"RDATE", 16),
-        first_too_many(event, b"EXDATE", 32),
+        first_too_many(event.named(b"RDATE"), 16),
+        first_too_many(event.named(b"EXDATE"), 32),
     )
 }
 
-// Is there no RECURRENCE-ID and no EXRULE?
-fn nothing_replaced(event: Cursor) -> Option<usize>
-    ensures { result ≡ nothing_replaced (event_at event.entry) }
+// Where the earlier of the first RECURRENCE-ID and the first EXRULE stands.
+fn nothing_replaced(event: &EventLines) -> Option<usize>
+    ensures { result ≡ nothing_replaced event.now }
 {
     earlier_place(
-        first_place(event, b"RECURRENCE-ID"),
-        first_place(event, b"EXRULE"),
+        first_place(event.named(b"RECURRENCE-ID")),
+        first_place(event.named(b"EXRULE")),
     )
 }
 
-// Refuses with a question where it fails at a place.
+// Passes where a question fails at no place; else the fault at its place.
 fn unless(failed: Option<usize>, question: EventQuestion) -> Result<(), EventFault>
     ensures { verdict result ≡ elim failed [ Some p ↦ Some (record { place = p; question = question }) | None ↦ None ] }
 {
     failed.map_or(Ok(()), |place| Err(EventFault { place, question }))
 }
 
-// Asks the event, whose BEGIN the cursor stands at, every question: the first that it fails.
-pub fn check_event(event: Cursor) -> Result<(), EventFault>
-    ensures { verdict result ≡ first_failed asked (event_at event.entry) }
+// Asks the event every question: the first that it fails, or the day that it starts on.
+pub fn check_event(event: &EventLines) -> Result<RangeDay, EventFault>
+    ensures asked { verdict result ≡ first_failed asked event.now }
+    ensures start { IfOk result (λ start. start_of event.now ≡ Some start) }
 {
-    unless(one_start(event), EventQuestion::OneStart)?;
-    unless(start_date(event), EventQuestion::StartDate)?;
-    unless(start_in_range(event), EventQuestion::StartInRange)?;
-    unless(second_place(event, b"RRULE"), EventQuestion::OneRule)?;
+    let start = start_day(event)?;
+    unless(second_place(event.named(b"RRULE")), EventQuestion::OneRule)?;
     unless(date_lists(event), EventQuestion::DateLists)?;
     unless(few_dates(event), EventQuestion::FewDates)?;
-    unless(nothing_replaced(event), EventQuestion::NothingReplaced)
+    unless(nothing_replaced(event), EventQuestion::NothingReplaced)?;
+    Ok(start)
 }

@@ -1,5 +1,6 @@
+-- The check does not find it: a file that fails no question, by a lemma of Reading.
 use Rattle.icalendar.proofs.Reading.{counted}
 use Rattle.icalendar.proofs.read.read_file.Goals as goal
 
 pub returns : goal.returns
-returns g c = (counted c.args.file.now c.in_default.field-0 c.in_default.ensures, c.in_ok-read_events.ensures)
+returns g c = (counted c.args.file.now c.in_ok-check_file.field-0 c.in_ok-check_file.ensures, c.in_ok-read_events.ensures)

@@ -1,3 +1,4 @@
+-- The check does not find it: a set's answer from a day on is by a relation and not by an equation.
 use Rattle.std.proofs.Common.{◌≡◌, ℕ, Bool, true, eqb, Some, None, Option, ap, ◌∙◌, arith}
 use Rattle.std.specs.Option.{option_eq}
 use Rattle.std.proofs.lemmas.Bool.Decides.{nat_tests}

@@ -1,32 +1,11 @@
-use Rattle.std.proofs.Common.{◌≡◌, ℕ, true, Some, None, sym, refl, ap, ◌∙◌, subst}
-use Rattle.days.specs.Numbers.{in_range}
-use Rattle.components.specs.Events.{event_at}
-use Rattle.vevent.specs.Kept.{start_of}
-use Rattle.vevent.proofs.Passed.{started}
+-- The check does not find it: the record keeps the event, by a lemma of Accepting.
+use Rattle.std.proofs.Common.{sym, refl, rules}
 use Rattle.icalendar.proofs.Accepting.{accepted}
 use Rattle.icalendar.proofs.verdict.read_event.Goals as goal
 
-pub unreachable-requires : goal.unreachable-requires
-unreachable-requires g c =
-    let there = started (event_at c.args.event) (sym c.in_ok-check_event.ensures) in
-    let named : c.start_of.result ≡ Some there.0 = c.start_of.ensures ∙ there.1 in
-    let h = rw (named, there.2) at c.and_then.ensures in
-    let z = c.in_default.is in
-    let k : Some there.0 ≡ None = cc in
-    cc
-
 pub returns : goal.returns
 returns g c =
-    let e = event_at c.args.event in
-    let passes = sym c.in_ok-check_event.ensures in
-    let there = started e passes in
-    let named : c.start_of.result ≡ Some there.0 = c.start_of.ensures ∙ there.1 in
-    let h = rw (named, there.2) at c.and_then.ensures in
-    let k : Some there.0 ≡ Some c.in-Some.start = sym h ∙ c.in-Some.is in
-    let same : there.0 ≡ c.in-Some.start = cc in
-    let starts : start_of e ≡ Some c.in-Some.start = there.1 ∙ ap Some same in
-    let ranged = subst (λ (n : ℕ). in_range n ≡ true) same there.2 in
-    accepted (g.S.Shelf.held c.args.shelf.now) c.args.file e _ c.in-Some.start passes starts c.in_ok-rule_of.ensures
+    accepted (g.S.Shelf.held c.args.shelf.now) c.args.number c.args.event.now _ c.in_ok-start.start (sym c.in_ok-start.ensures.asked) c.in_ok-start.ensures.start c.in_ok-rule_of.ensures
     (λ u ruled last.
     record {
       file = refl;
@@ -35,6 +14,6 @@ returns g c =
       rdates = c.days_of.ensures;
       exdates = c.days_of-2.ensures;
       title = c.title_of.ensures;
-      ranged = ranged;
+      ranged = search rules;
       ready = record { last = last };
     })

@@ -1,4 +1,5 @@
-use Rattle.std.proofs.Common.{◌≡◌, rules, ℕ, Ok, Err, sym, ap, ◌∙◌, subst}
+-- The check does not find these: what the mapped errors say, by lemmas of Mapped and Ruled.
+use Rattle.std.proofs.Common.{◌≡◌, rules, ℕ, sym, ap, ◌∙◌, subst}
 use Rattle.lines.specs.View.{line_of}
 use Rattle.rrule.specs.Questions.{rule_read}
 use Rattle.rrule.specs.Result.{said_by, told}

@@ -1,3 +1,4 @@
+-- The check does not find these: the days by the parts of a series, by lemmas of Days.
 use Rattle.std.proofs.Common.{ap}
 use Rattle.calendar.specs.Shelves.{almanac_at}
 use Rattle.sources.specs.Events.{limit_in}

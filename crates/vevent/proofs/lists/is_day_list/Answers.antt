@@ -1,3 +1,4 @@
+-- The check does not find it: what the closure answers for each piece, by the library's lemma of `all`.
 use Rattle.std.proofs.Common.{rules, tests}
 use Rattle.std.proofs.lemmas.Iterator.Consumers.{YieldsList-from_first}
 use Rattle.std.proofs.lemmas.Iterator.Search.{all_from_yields_List}

@@ -1,3 +1,4 @@
+-- What the loop keeps: the check does not find an invariant.
 use Rattle.std.proofs.Common.{◌≡◌, length}
 use Rattle.vevent.specs.Lists.{room_after}
 use Rattle.vevent.proofs.lists.room_after.Given as goal
