@@ -16,8 +16,8 @@ AllSay shelf [] (y ∷ ys) = ⊥
 AllSay shelf (x ∷ xs) [] = ⊥
 AllSay shelf (x ∷ xs) (y ∷ ys) = Says shelf x y × AllSay shelf xs ys
 
--- the events of a file that fails no question, or the first that it fails; nothing where memory ran out
+-- the events of a file that fails no question, or the first that it fails; memory runs out only for a file that fails none
 abbrev pub Reads : {Z : Type 0} → List Almanac → ℕ → List ℕ → Result (Vec (Result Series Fault) Z) ReadError → Type 0
 Reads shelf number bs (Ok v) = (file_read bs ≡ Ok (length (events_of bs))) × AllSay shelf (vec_items v) (verdicts shelf number bs)
 Reads shelf number bs (Err (Refused q)) = file_read bs ≡ Err q
-Reads shelf number bs (Err (OutOfMemory e)) = Unit {0}
+Reads shelf number bs (Err (OutOfMemory e)) = file_read bs ≡ Ok (length (events_of bs))
