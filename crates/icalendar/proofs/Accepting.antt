@@ -9,7 +9,7 @@ use Rattle.vevent.specs.Kept.{start_of}
 use Rattle.series.specs.declared.record.Series.{Series}
 use Rattle.series.specs.Record.{Ruled, Accepted, Keeps, ruled_in, LastRight}
 use Rattle.icalendar.specs.declared.fault.Fault.{Fault}
-use Rattle.icalendar.specs.declared.fault.Failed.TheVariants.{Event as EventFailed}
+use Rattle.refusals.specs.declared.asked.Failed.TheVariants.{Event as EventFailed}
 use Rattle.icalendar.specs.Verdicts.{verdict, started, kept, or_fault, rule_among, failed_at, Says, RulesOrNone}
 
 -- what becomes of an event, by the first question on its own lines that it fails

@@ -6,7 +6,7 @@ use Rattle.components.specs.Events.{Event}
 use Rattle.series.specs.declared.record.Series.{Series}
 use Rattle.series.specs.Record.{Accepted}
 use Rattle.icalendar.specs.declared.fault.Fault.{Fault}
-use Rattle.icalendar.specs.declared.file.FileQuestion.{FileQuestion}
+use Rattle.refusals.specs.declared.asked.FileQuestion.{FileQuestion}
 use Rattle.icalendar.specs.Files.{asked, first_failed, unless_failed, file_read, events_of}
 use Rattle.icalendar.specs.Verdicts.{Says}
 use Rattle.icalendar.specs.Read.{AllSay}

@@ -10,16 +10,16 @@ use Rattle.lines.specs.declared.cursor.Cursor.{Cursor}
 use Rattle.lines.specs.View.{line_of}
 use Rattle.rrule.specs.Rule.{Said}
 use Rattle.rrule.specs.Questions.{rule_read}
-use Rattle.rrule.specs.declared.fault.RuleFault.{RuleFault}
+use Rattle.refusals.specs.declared.asked.RuleQuestion.{RuleQuestion}
 use Rattle.series.specs.declared.record.Recurrence.{Recurrence}
 use Rattle.series.specs.Record.{Ruled}
-use Rattle.icalendar.specs.declared.fault.CalendarQuestion.{CalendarQuestion}
+use Rattle.refusals.specs.declared.asked.CalendarQuestion.{CalendarQuestion}
 use Rattle.icalendar.specs.declared.fault.Fault.{Fault}
-use Rattle.icalendar.specs.declared.fault.Failed.TheVariants.{Rule as RuleFailed, Calendar as CalendarFailed}
+use Rattle.refusals.specs.declared.asked.Failed.TheVariants.{Rule as RuleFailed, Calendar as CalendarFailed}
 use Rattle.icalendar.specs.Verdicts.{Rules, RulesOrNone, on_calendar, rule_on, rule_among, some_rule, or_calendar_fault, failed_at}
 
 -- the rule on a line, once its text is read
-abbrev by_text : List Almanac → ℕ → ℕ → Result Said RuleFault → Result Ruled Fault
+abbrev by_text : List Almanac → ℕ → ℕ → Result Said RuleQuestion → Result Ruled Fault
 by_text shelf start p (Ok r) = or_calendar_fault p (on_calendar shelf r start)
 by_text shelf start p (Err f) = Err (failed_at p (RuleFailed f))
 
@@ -36,7 +36,7 @@ placed shelf start p (Err q) (Err k) h = ap (λ x. failed_at p (CalendarFailed x
 
 pub on_line : (shelf : List Almanac) (start : ℕ) (l : Line) (r : Said) (a : Result Recurrence CalendarQuestion) → Ok r ≡ rule_read (value l.text) → Rules shelf start a (on_calendar shelf r start) → Rules shelf start (with_place l.place a) (rule_on shelf start l)
 on_line shelf start l r a e h =
-    subst (λ (x : Result Said RuleFault). Rules shelf start (with_place l.place a) (by_text shelf start l.place x)) e (placed shelf start l.place a (on_calendar shelf r start) h)
+    subst (λ (x : Result Said RuleQuestion). Rules shelf start (with_place l.place a) (by_text shelf start l.place x)) e (placed shelf start l.place a (on_calendar shelf r start) h)
 
 -- ── the rule among an event's lines ──
 
@@ -63,5 +63,5 @@ named_question p Post says (Err q) (Ok r) h = absurd h
 named_question p Post says (Err q) (Err f) h = ap Err (says q f h)
 
 -- a rule whose text fails a question
-pub unread : (shelf : List Almanac) (start : ℕ) (l : Line) (f : RuleFault) (g : Fault) → Err f ≡ rule_read (value l.text) → g ≡ failed_at l.place (RuleFailed f) → Rules shelf start (Err g) (rule_on shelf start l)
-unread shelf start l f g e k = subst (λ (x : Result Said RuleFault). Rules shelf start (Err g) (by_text shelf start l.place x)) e k
+pub unread : (shelf : List Almanac) (start : ℕ) (l : Line) (f : RuleQuestion) (g : Fault) → Err f ≡ rule_read (value l.text) → g ≡ failed_at l.place (RuleFailed f) → Rules shelf start (Err g) (rule_on shelf start l)
+unread shelf start l f g e k = subst (λ (x : Result Said RuleQuestion). Rules shelf start (Err g) (by_text shelf start l.place x)) e k

@@ -5,8 +5,8 @@ use Rattle.lines.specs.Ended.{well_ended}
 use Rattle.lines.specs.Machine.{all_well}
 use Rattle.components.specs.Nest.{one_calendar}
 use Rattle.components.specs.Events.{Event, events_in}
-use Rattle.icalendar.specs.declared.file.FileQuestion.{FileQuestion}
-use Rattle.icalendar.specs.declared.file.FileQuestion.TheVariants.{Size, LineEnds, LineForms, Nesting}
+use Rattle.refusals.specs.declared.asked.FileQuestion.{FileQuestion}
+use Rattle.refusals.specs.declared.asked.FileQuestion.TheVariants.{Size, LineEnds, LineForms, Nesting}
 
 -- a question with what it asks of a file's bytes
 pub record Asked : Type 0 where
@@ -36,9 +36,3 @@ unless_failed None n = Ok n
 
 abbrev pub file_read : List ℕ → Result ℕ FileQuestion
 file_read bs = unless_failed (first_failed asked bs) (length (events_of bs))
-
-abbrev pub number : FileQuestion → ℕ
-number Size = 4
-number LineEnds = 5
-number LineForms = 7
-number Nesting = 8

@@ -1,4 +1,3 @@
 pub mod Files
-pub mod Faults
 pub mod Verdicts
 pub mod Read

@@ -20,10 +20,10 @@ use Rattle.vevent.specs.Questions.{asked, first_failed}
 use Rattle.vevent.specs.Kept.{start_of, rdates, exdates, title_of}
 use Rattle.series.specs.declared.record.Series.{Series}
 use Rattle.series.specs.Record.{Ruled, Accepted, Keeps, ruled_in, LastRight}
-use Rattle.icalendar.specs.declared.fault.CalendarQuestion.{CalendarQuestion}
-use Rattle.icalendar.specs.declared.fault.CalendarQuestion.TheVariants.{OnShelf, KnownMonths, StartIsFirst}
-use Rattle.icalendar.specs.declared.fault.Failed.{Failed}
-use Rattle.icalendar.specs.declared.fault.Failed.TheVariants.{Event as EventFailed, Rule as RuleFailed, Calendar as CalendarFailed}
+use Rattle.refusals.specs.declared.asked.CalendarQuestion.{CalendarQuestion}
+use Rattle.refusals.specs.declared.asked.CalendarQuestion.TheVariants.{OnShelf, KnownMonths, StartIsFirst}
+use Rattle.refusals.specs.declared.asked.Failed.{Failed}
+use Rattle.refusals.specs.declared.asked.Failed.TheVariants.{Event as EventFailed, Rule as RuleFailed, Calendar as CalendarFailed}
 use Rattle.icalendar.specs.declared.fault.Fault.{Fault}
 use Rattle.icalendar.specs.Files.{events_of}
 

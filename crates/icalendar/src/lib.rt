@@ -9,7 +9,7 @@ mod rule;
 mod tests;
 mod verdict;
 
-pub use fault::{CalendarQuestion, Failed, Fault};
-pub use file::{FileQuestion, check_file};
+pub use fault::Fault;
+pub use file::check_file;
 pub use read::{ReadError, read_file};
 pub use verdict::read_event;

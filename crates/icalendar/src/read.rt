@@ -5,9 +5,10 @@ ghost use Rattle.icalendar.specs.Read.{AllSay, Reads};
 ghost use Rattle.icalendar.specs.declared.read.ReadError.TheVariants.{Refused, OutOfMemory};
 
 use crate::fault::Fault;
-use crate::file::{FileQuestion, check_file};
+use crate::file::check_file;
 use crate::verdict::read_event;
 use events::RuleShelf;
+use refusals::FileQuestion;
 use series::Series;
 use std::alloc::{AllocError, Global};
 use vevent::FileEvents;

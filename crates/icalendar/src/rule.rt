@@ -6,10 +6,10 @@ ghost use Rattle.rules.specs.Making.{parts_give};
 ghost use Rattle.rrule.specs.Result.{said_by};
 ghost use Rattle.icalendar.specs.Verdicts.{name_asked, place_named, code_known, within_until, on_calendar, Rules};
 
-use crate::fault::CalendarQuestion;
 use calendar::{MonthCode, Shelf};
 use days::RangeDay;
 use events::{RuleShelf, ShelfRule};
+use refusals::CalendarQuestion;
 use rrule::RuleText;
 use rule_values::ScaleName;
 use series::Recurrence;

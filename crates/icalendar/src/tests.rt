@@ -1,6 +1,7 @@
 // A file that is read whole.
 use super::*;
 use calendar::Empty;
+use refusals::{CalendarQuestion, Failed, FileQuestion};
 use std::test::Fail;
 
 // Two events of 1 January 2024, which is day 738,886, the second with a rule on line 7.

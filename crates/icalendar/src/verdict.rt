@@ -4,11 +4,12 @@ ghost use Rattle.lines.specs.View.{line_of};
 ghost use Rattle.components.specs.Events.{picked};
 ghost use Rattle.icalendar.specs.Verdicts.{rule_on, rule_among, verdict, Rules, RulesOrNone, Says};
 
-use crate::fault::{Failed, Fault};
+use crate::fault::Fault;
 use crate::rule::on_calendar;
 use days::RangeDay;
 use events::RuleShelf;
 use lines::{Cursor, value_of};
+use refusals::Failed;
 use rrule::read_rule;
 use series::{Recurrence, Series};
 use vevent::{EventLines, check_event, days_of, title_of};

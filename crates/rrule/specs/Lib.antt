@@ -1,4 +1,3 @@
-pub mod Faults
 pub mod Named
 pub mod Rule
 pub mod Questions

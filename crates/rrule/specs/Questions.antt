@@ -1,10 +1,10 @@
--- The questions asked of a rule in their order, and what its text says: the fault of the first that fails, or every
--- field of the rule.
+-- The questions asked of a rule in their order, and what its text says: the first that fails, or every field
+-- of the rule.
 use Rattle.std.specs.Prelude.{ℕ, Bool, false, cond, not, ◌&&◌, ◌||◌, List, [], ◌∷◌, is_some, Some, None, Ok, Err, Option, Result}
 use Rattle.rules.specs.Parts.{some_of, numbered, takes_numbers, takes_month_days}
 use Rattle.rules.specs.declared.parts.Frequency.{Frequency}
-use Rattle.rrule.specs.declared.fault.RuleFault.{RuleFault}
-use Rattle.rrule.specs.declared.fault.RuleFault.TheVariants.{NotParts, BadValue, NoFrequency, CountAndUntil, SkipWithoutScale, MonthDaysInWeeks, NumberedWeekdays}
+use Rattle.refusals.specs.declared.asked.RuleQuestion.{RuleQuestion}
+use Rattle.refusals.specs.declared.asked.RuleQuestion.TheVariants.{NamedParts, ValueForms, HasFrequency, OneLimit, ScaledSkip, NoMonthDaysInWeeks, NumberedWeekdays}
 use Rattle.rrule.specs.declared.values.Values.{Values}
 use Rattle.rrule.specs.Named.{parts, well_parted}
 use Rattle.rrule.specs.Rule.{values_of, well_valued, the_weekdays, Said, rule_of}
@@ -31,28 +31,30 @@ numbers_allowed v =
     not (some_of (λ d. numbered d.position) (the_weekdays v))
     || (by_frequency takes_numbers v.frequency && not (is_some v.month_days))
 
-pub record Question : Type 0 where
+-- a question with what it asks of the parts of a rule
+pub record Asked : Type 0 where
+  pub question : RuleQuestion
   pub passes : List (List ℕ) → Bool
-  pub fault : RuleFault
 
-abbrev pub questions : List Question
-questions =
-    record { passes = well_parted; fault = NotParts } ∷
-    record { passes = well_valued; fault = BadValue } ∷
-    record { passes = λ ps. has_frequency (values_of ps); fault = NoFrequency } ∷
-    record { passes = λ ps. one_limit (values_of ps); fault = CountAndUntil } ∷
-    record { passes = λ ps. skip_with_scale (values_of ps); fault = SkipWithoutScale } ∷
-    record { passes = λ ps. month_days_allowed (values_of ps); fault = MonthDaysInWeeks } ∷
-    record { passes = λ ps. numbers_allowed (values_of ps); fault = NumberedWeekdays } ∷ []
+abbrev pub asked : List Asked
+asked =
+    record { question = NamedParts; passes = well_parted } ∷
+    record { question = ValueForms; passes = well_valued } ∷
+    record { question = HasFrequency; passes = λ ps. has_frequency (values_of ps) } ∷
+    record { question = OneLimit; passes = λ ps. one_limit (values_of ps) } ∷
+    record { question = ScaledSkip; passes = λ ps. skip_with_scale (values_of ps) } ∷
+    record { question = NoMonthDaysInWeeks; passes = λ ps. month_days_allowed (values_of ps) } ∷
+    record { question = NumberedWeekdays; passes = λ ps. numbers_allowed (values_of ps) } ∷ []
 
-abbrev pub first_failed : List Question → List (List ℕ) → Option RuleFault
+-- the first question that the parts of a rule fail
+abbrev pub first_failed : List Asked → List (List ℕ) → Option RuleQuestion
 first_failed [] ps = None
-first_failed (q ∷ qs) ps = cond (q.passes ps) (first_failed qs ps) (Some q.fault)
+first_failed (q ∷ qs) ps = cond (q.passes ps) (first_failed qs ps) (Some q.question)
 
-abbrev pub unless : {A : Type 0} → Option RuleFault → A → Result A RuleFault
-unless (Some fault) x = Err fault
+abbrev pub unless : {A : Type 0} → Option RuleQuestion → A → Result A RuleQuestion
+unless (Some q) x = Err q
 unless None x = Ok x
 
--- the fault of the first question that a text fails, or the rule
-abbrev pub rule_read : List ℕ → Result Said RuleFault
-rule_read bs = unless (first_failed questions (parts bs)) (rule_of (values_of (parts bs)))
+-- the first question that a text fails, or the rule
+abbrev pub rule_read : List ℕ → Result Said RuleQuestion
+rule_read bs = unless (first_failed asked (parts bs)) (rule_of (values_of (parts bs)))

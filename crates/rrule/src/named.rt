@@ -1,11 +1,11 @@
 // The parts of a rule, between semicolons: each a name and a value around its first `=`.
 ghost use Rattle.std.specs.Prelude.{◌≡◌, true, false, ℕ, List, Some, None, IfOk, IfErr};
 ghost use Rattle.rules.specs.Parts.{each_of};
-ghost use Rattle.rrule.specs.declared.fault.RuleFault.TheVariants.{NotParts, BadValue};
+ghost use Rattle.refusals.specs.declared.asked.RuleQuestion.TheVariants.{NamedParts, ValueForms};
 ghost use Rattle.rrule.specs.Named.{part_word, parts, name, is_known, well_named, some_named, none_twice, well_parted, value_of, said, in_form};
 
-use crate::fault::RuleFault;
 use crate::part_name::PartName;
+use refusals::RuleQuestion;
 use rule_values::{Form, Word};
 use std::marker::Model;
 use text::{Bytes, Pieces, Separator, UpTo, after, reads, same_text};
@@ -75,12 +75,12 @@ impl<B: Bytes> Model for RuleParts<B> {
 
 impl<B: Bytes> RuleParts<B> {
     // The parts of a rule, or the fault that it is none.
-    pub fn of(rule: B) -> Result<RuleParts<B>, RuleFault>
+    pub fn of(rule: B) -> Result<RuleParts<B>, RuleQuestion>
         ensures ok { IfOk result (λ ps. (well_parted (parts (B.Bytes.left rule)) ≡ true) × (ps ≡ parts (B.Bytes.left rule))) }
-        ensures err { IfErr result (λ fault. (well_parted (parts (B.Bytes.left rule)) ≡ false) × (fault ≡ NotParts)) }
+        ensures err { IfErr result (λ fault. (well_parted (parts (B.Bytes.left rule)) ≡ false) × (fault ≡ NamedParts)) }
     {
         if !(all_well_named(rule) && none_twice(rule)) {
-            return Err(RuleFault::NotParts);
+            return Err(RuleQuestion::NamedParts);
         }
         Ok(RuleParts { rule })
     }
@@ -95,12 +95,12 @@ impl<B: Bytes> RuleParts<B> {
     }
 
     // What the part of this name says, if it is there, or the fault that its value has another form.
-    pub fn said<T: Form>(&self, name: PartName) -> Result<Option<T>, RuleFault>
+    pub fn said<T: Form>(&self, name: PartName) -> Result<Option<T>, RuleQuestion>
         ensures ok { IfOk result (λ o. (in_form T.Form.reading (value_of (part_word name) self.now) ≡ true) × (o ≡ said T.Form.reading (value_of (part_word name) self.now))) }
-        ensures err { IfErr result (λ fault. (in_form T.Form.reading (value_of (part_word name) self.now) ≡ false) × (fault ≡ BadValue)) }
+        ensures err { IfErr result (λ fault. (in_form T.Form.reading (value_of (part_word name) self.now) ≡ false) × (fault ≡ ValueForms)) }
     {
         self.value_of(name)
-            .map(|value| T::read(value).ok_or(RuleFault::BadValue))
+            .map(|value| T::read(value).ok_or(RuleQuestion::ValueForms))
             .transpose()
     }
 }

@@ -7,8 +7,8 @@ use Rattle.text.specs.Pieces.{pieces}
 use Rattle.lines.specs.Lines.{Line}
 use Rattle.lines.specs.Property.{date_valued, value}
 use Rattle.components.specs.Events.{Event, picked}
-use Rattle.vevent.specs.declared.questions.EventQuestion.{EventQuestion}
-use Rattle.vevent.specs.declared.questions.EventQuestion.TheVariants.{OneStart, StartDate, StartInRange, OneRule, DateLists, FewDates, NothingReplaced}
+use Rattle.refusals.specs.declared.asked.EventQuestion.{EventQuestion}
+use Rattle.refusals.specs.declared.asked.EventQuestion.TheVariants.{OneStart, StartDate, StartInRange, OneRule, DateLists, FewDates, NothingReplaced}
 use Rattle.vevent.specs.declared.questions.EventFault.{EventFault}
 use Rattle.vevent.specs.Lists.{if_ranged, all_days, room_after}
 
@@ -104,16 +104,6 @@ asked =
 abbrev pub first_failed : List Asked → Event → Option EventFault
 first_failed [] e = None
 first_failed (q ∷ qs) e = elim (q.fails_at e) [ Some p ↦ Some (record { place = p; question = q.question }) | None ↦ first_failed qs e ]
-
--- the number of a question
-abbrev pub number : EventQuestion → ℕ
-number OneStart = 21
-number StartDate = 22
-number StartInRange = 23
-number OneRule = 24
-number DateLists = 25
-number FewDates = 26
-number NothingReplaced = 27
 
 abbrev pub verdict : {T : Type 0} → Result T EventFault → Option EventFault
 verdict (Ok t) = None

@@ -9,4 +9,4 @@ mod questions;
 pub use event::{EventLines, FileEvents, NamedLines};
 pub use kept::{days_of, start_of, title_of};
 pub use lists::{add_days, is_day_list, ranged_day, room_after};
-pub use questions::{EventFault, EventQuestion, check_event};
+pub use questions::{EventFault, check_event};

@@ -8,26 +8,8 @@ use crate::event::{EventLines, NamedLines};
 use crate::lists::{is_day_list, room_after};
 use days::RangeDay;
 use lines::{Cursor, is_date, value_of};
+use refusals::EventQuestion;
 use text::read_day;
-
-// What an event's own lines are asked, each case named for what is wanted.
-#[derive(Clone, Copy, Debug, PartialEq, Eq)]
-pub enum EventQuestion {
-    // just one DTSTART
-    OneStart,
-    // VALUE=DATE and a real date
-    StartDate,
-    // DTSTART in the range
-    StartInRange,
-    // at most one RRULE
-    OneRule,
-    // RDATE and EXDATE lists of real dates in the range
-    DateLists,
-    // at most 16 RDATE and 32 EXDATE dates
-    FewDates,
-    // no RECURRENCE-ID and no EXRULE
-    NothingReplaced,
-}
 
 // A question that an event fails, and the place of the line that fails it.
 #[derive(Clone, Copy, Debug, PartialEq, Eq)]

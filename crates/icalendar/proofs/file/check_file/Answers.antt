@@ -3,7 +3,7 @@ use Rattle.std.proofs.Common.{◌≡◌, ℕ, Bool, true, false, cond, Some, Non
 use Rattle.std.specs.Option.{ok_or}
 use Rattle.std.proofs.lemmas.Bool.{le-leb}
 use Rattle.std.proofs.lemmas.Bool.Decides.{nat_tests}
-use Rattle.icalendar.specs.declared.file.FileQuestion.TheVariants.{Nesting}
+use Rattle.refusals.specs.declared.asked.FileQuestion.TheVariants.{Nesting}
 use Rattle.icalendar.specs.Files.{unless_failed}
 use Rattle.icalendar.proofs.file.check_file.Goals as goal
 

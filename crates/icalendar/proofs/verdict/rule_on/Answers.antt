@@ -3,7 +3,7 @@ use Rattle.std.proofs.Common.{◌≡◌, rules, ℕ, sym, ap, ◌∙◌, subst}
 use Rattle.lines.specs.View.{line_of}
 use Rattle.rrule.specs.Questions.{rule_read}
 use Rattle.rrule.specs.Result.{said_by, told}
-use Rattle.icalendar.specs.declared.fault.Failed.TheVariants.{Rule as RuleFailed}
+use Rattle.refusals.specs.declared.asked.Failed.TheVariants.{Rule as RuleFailed}
 use Rattle.icalendar.specs.Verdicts.{Rules, rule_on, failed_at}
 use Rattle.icalendar.proofs.Mapped.{ok_before, err_before, err_is}
 use Rattle.icalendar.proofs.Ruled.{on_line, named_question, unread, with_place}
