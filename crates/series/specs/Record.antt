@@ -1,5 +1,6 @@
 -- What is kept of an accepted event, the days that it gives, and how a series record keeps it.
-use Rattle.std.specs.Prelude.{◌≡◌, ℕ, Bool, true, List, Some, None, Option}
+use Rattle.std.specs.Prelude.{◌≡◌, ℕ, ◌+◌, ◌-◌, Bool, true, ◌&&◌, List, Some, None, Option}
+use Rattle.std.specs.List.{filter, range_with_len}
 use Rattle.days.specs.Numbers.{in_range}
 use Rattle.calendar.specs.Sheets.{Almanac}
 use Rattle.calendar.specs.Shelves.{almanac_at}
@@ -45,6 +46,10 @@ limit_of None = Endless
 abbrev pub days_given : List Almanac → Accepted → ℕ → Bool
 days_given shelf e = event_days (rule_days shelf e.ruled e.start) (limit_of e.ruled) e.rdates e.exdates
 
+-- the days of a set from one day to another, both included, in their order
+abbrev pub days_between : (ℕ → Bool) → ℕ → ℕ → List ℕ
+days_between set first last = filter (λ d. in_range d && set d) (range_with_len first (last + 1 - first))
+
 -- ── as a series record keeps it ──
 
 abbrev pub ruled_in : Option Recurrence → Option Ruled
@@ -55,6 +60,10 @@ ruled_in None = None
 abbrev pub series_days : List Almanac → Series → ℕ → Bool
 series_days shelf s =
     event_days (rule_days shelf (ruled_in s.recurrence) s.start) (limit_of (ruled_in s.recurrence)) s.rdates s.exdates
+
+-- all that a series record keeps
+abbrev pub kept_in : Series → Accepted
+kept_in s = record { file = s.file; ruled = ruled_in s.recurrence; start = s.start; rdates = s.rdates; exdates = s.exdates; title = s.title }
 
 -- what is kept with a rule's ending is right: for a COUNT, the last of the counted days
 abbrev pub LastRight : List Almanac → ℕ → Option Recurrence → Type 0

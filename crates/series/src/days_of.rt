@@ -1,11 +1,12 @@
 // The days of a series.
-ghost use Rattle.std.specs.Prelude.{◌≡◌, true};
+ghost use Rattle.std.specs.Prelude.{◌≡◌, IfOk};
 ghost use Rattle.sources.specs.Sets.{Found};
-ghost use Rattle.series.specs.Record.{series_days, Ready};
+ghost use Rattle.series.specs.Record.{series_days, days_between, Ready};
 
 use crate::record::Series;
 use events::{RuleShelf, ShelfRule};
 use sources::{Amendments, Ending, Event, Single, Source};
+use std::alloc::{AllocError, Global};
 
 // The least day at or after `from` that the series gives.
 pub fn next_day<S: RuleShelf>(shelf: &S, series: &Series, from: u32) -> Option<u32>
@@ -38,4 +39,27 @@ pub fn next_day<S: RuleShelf>(shelf: &S, series: &Series, from: u32) -> Option<u
         }
         .next(from),
     }
+}
+
+// The days that the series gives from `first` to `last`, both included, in their order.
+pub fn days_between<S: RuleShelf>(
+    heap: Global,
+    shelf: &S,
+    series: &Series,
+    first: u32,
+    last: u32,
+) -> Result<Vec<u32>, AllocError>
+    requires { Ready (S.Shelf.held shelf.now) series.now }
+    ensures { IfOk result (λ days. days.items ≡ days_between (series_days (S.Shelf.held shelf.now) series.now) first last) }
+{
+    let mut days = Vec::new(heap);
+    let mut from = first;
+    while let Some(day) = next_day(shelf, series, from) {
+        if day > last {
+            break;
+        }
+        days.push(day)?;
+        from = day + 1;
+    }
+    Ok(days)
 }

@@ -4,5 +4,5 @@
 mod days_of;
 mod record;
 
-pub use days_of::next_day;
+pub use days_of::{days_between, next_day};
 pub use record::{Recurrence, Series};
