@@ -20,8 +20,9 @@ use Rattle.rules.specs.Meaning.{Date, date_of, given_among, some_below, first_fr
 use Rattle.rules.proofs.Searching.{below_from, below_found}
 use Rattle.rules.proofs.Dated.{date_found}
 use Rattle.rules.proofs.Orderly.{counted_orderly}
-use Rattle.rules.proofs.Given.{day_of, given_by, range_bounds}
-use Rattle.worked.specs.Dates.{AllHold, Holds, days, and_then, firsts, bare, worked_dates}
+use Rattle.rules.proofs.Given.{day_of, given_by, range_bounds, range_from, gives_bounds}
+use Rattle.worked.specs.Dates.{AllHold, Holds, days, counted, and_then, firsts, bare, worked_dates}
+use Rattle.worked.proofs.Counted.{same_truth, first_days}
 
 -- the year has a month at place p, and the month a day d
 abbrev has : Sheet → ℕ → ℕ → Bool
@@ -57,11 +58,6 @@ at_place a t n p h k e =
     }
 
 -- ── the days of a rule ──
-
-same_truth : (x y : Bool) → (x ≡ true → y ≡ true) → (y ≡ true → x ≡ true) → x ≡ y
-same_truth true y f g = sym (f refl)
-same_truth false true f g = g refl
-same_truth false false f g = refl
 
 then_same : (o : Option ℕ) (f g : ℕ → List ℕ) → ((n : ℕ) → f n ≡ g n) → and_then o f ≡ and_then o g
 then_same None f g same = refl
@@ -134,6 +130,12 @@ leap_day_omit = by_periods gregorian (bare Yearly Omit) 734562 (at 2012 2 29) 4 
 month_ends : Holds (days gregorian (bare Monthly Forward) 735264 (735264 ∷ 735293 ∷ 735323 ∷ 735354 ∷ []))
 month_ends = by_periods gregorian (bare Monthly Forward) 735264 (at 2014 1 31) 3 735354 gregorian_laws refl (stands_at gregorian 735264 2014 1 31 refl refl) refl 4 _ refl
 
+-- a rule gives no day before DTSTART and none outside the range, so the four days found are the first four of all
+four_month_ends : Holds (counted gregorian (bare Monthly Forward) 735264 4 (735264 ∷ 735293 ∷ 735323 ∷ 735354 ∷ []))
+four_month_ends =
+    let b = gives_bounds gregorian (bare Monthly Forward) 735264 in
+    first_days (gives gregorian (bare Monthly Forward) 735264) (λ d e. range_from d (b d e).1 (b d e).2) 4 735264 _ (λ d e. (b d e).0) month_ends refl
+
 adar_forward : Holds (days hebrew (bare Yearly Forward) 735272 (735272 ∷ 735656 ∷ []))
 adar_forward = by_periods hebrew (bare Yearly Forward) 735272 (at 5774 6 8) 1 735656 hebrew_laws refl (stands_at hebrew 735272 5774 6 8 refl refl) refl 2 _ refl
 
@@ -141,4 +143,4 @@ adar_backward : Holds (days hebrew (bare Yearly Backward) 735272 (735272 ∷ 735
 adar_backward = by_periods hebrew (bare Yearly Backward) 735272 (at 5774 6 8) 1 735626 hebrew_laws refl (stands_at hebrew 735272 5774 6 8 refl refl) refl 2 _ refl
 
 pub worked : AllHold worked_dates
-worked = (at_place _ _ _ 2 refl refl refl, (at_place _ _ _ 6 refl refl refl, (at_place _ _ _ 1 refl refl refl, (leap_day_forward, (leap_day_omit, (month_ends, (adar_forward, (adar_backward, tt))))))))
+worked = (at_place _ _ _ 2 refl refl refl, (at_place _ _ _ 6 refl refl refl, (at_place _ _ _ 1 refl refl refl, (leap_day_forward, (leap_day_omit, (four_month_ends, (adar_forward, (adar_backward, tt))))))))
