@@ -13,6 +13,8 @@ pub enum Complaint {
     DateWords,
     DayWords,
     YearWords,
+    CheckWords,
+    DaysWords,
     BadDate(DateFault),
     BadYear,
     BadCode,
@@ -33,7 +35,7 @@ impl fmt::Display for Complaint {
 
     fn fmt<W: fmt::Write>(&self, f: &mut fmt::Formatter<W>) -> fmt::Result {
         match self {
-            Complaint::Unknown => write!(f, "the commands are date, day and year"),
+            Complaint::Unknown => write!(f, "the commands are date, day, year, check and days"),
             Complaint::DateWords => write!(f, "date takes a date, as date 20140208"),
             Complaint::DayWords => write!(
                 f,
@@ -42,6 +44,11 @@ impl fmt::Display for Complaint {
             Complaint::YearWords => write!(
                 f,
                 "year takes a calendar and a year, as year hebrew 5774"
+            ),
+            Complaint::CheckWords => write!(f, "check takes a file, as check crew.ics"),
+            Complaint::DaysWords => write!(
+                f,
+                "days takes a file and two dates, as days crew.ics 20140101 20141231"
             ),
             Complaint::BadDate(fault) => write!(f, "{fault}"),
             Complaint::BadYear => write!(f, "the year is no number of 32 bits"),

@@ -7,7 +7,7 @@ mod complaint;
 mod numbers;
 mod reading;
 
-pub use command::Command;
+pub use command::{Command, DateQuery, FileQuery};
 pub use complaint::Complaint;
 pub use numbers::Numbers;
 pub use reading::read_command;

@@ -1,10 +1,10 @@
 // Commands, read from their words.
 ghost use Rattle.std.specs.Prelude.{◌≡◌, List, ℕ};
 ghost use Rattle.commands.specs.Words.{Gives};
-ghost use Rattle.commands.specs.Commands.{meant, year_read, day_read, named_read, date_command, day_command, year_command, command_of, command_read};
+ghost use Rattle.commands.specs.Commands.{meant, year_read, day_read, named_read, date_command, day_command, year_command, check_command, days_command, file_command, command_of, command_read};
 
 use crate::codes::read_code;
-use crate::{Command, Complaint, Numbers};
+use crate::{Command, Complaint, DateQuery, FileQuery, Numbers};
 use calendar::NamedDate;
 use days::digits::read_date;
 
@@ -38,7 +38,7 @@ fn read_named(
     Ok(NamedDate { year, code, day })
 }
 
-// The three below take words and numbers apart: a struct of both would ask for `can_next` where it is made, and need a
+// The five below take words and numbers apart: a struct of both would ask for `can_next` where it is made, and need a
 // `next` of its own with a clause about the words that are left, so that it would be no plainer.
 
 // date DATE
@@ -50,7 +50,7 @@ fn date_command<'a, W: Iterator<Item = &'a [u8]>>(mut words: W) -> Result<Comman
     if words.next().is_some() {
         return Err(Complaint::DateWords);
     }
-    Ok(Command::Date(read_date(date)?))
+    Ok(Command::Dates(DateQuery::Date(read_date(date)?)))
 }
 
 // day CALENDAR YEAR CODE DAY
@@ -69,7 +69,8 @@ fn day_command<'a, W: Iterator<Item = &'a [u8]>>(
     if words.next().is_some() {
         return Err(Complaint::DayWords);
     }
-    Ok(Command::Day(name, read_named(year, code, day, numbers)?))
+    let date = read_named(year, code, day, numbers)?;
+    Ok(Command::Dates(DateQuery::Day(name, date)))
 }
 
 // year CALENDAR YEAR
@@ -85,7 +86,51 @@ fn year_command<'a, W: Iterator<Item = &'a [u8]>>(
     if words.next().is_some() {
         return Err(Complaint::YearWords);
     }
-    Ok(Command::Year(name, read_year(year, numbers)?))
+    let year = read_year(year, numbers)?;
+    Ok(Command::Dates(DateQuery::Year(name, year)))
+}
+
+// check FILE
+fn check_command<'a, W: Iterator<Item = &'a [u8]>>(mut words: W) -> Result<Command<'a>, Complaint>
+    requires { W.can_next words }
+    ensures { (ws : List (List ℕ)) → Gives W.next_gives words ws → meant result ≡ check_command ws }
+{
+    let name = words.next().ok_or(Complaint::CheckWords)?;
+    if words.next().is_some() {
+        return Err(Complaint::CheckWords);
+    }
+    Ok(Command::File(name, FileQuery::Check))
+}
+
+// days FILE FIRST LAST
+fn days_command<'a, W: Iterator<Item = &'a [u8]>>(mut words: W) -> Result<Command<'a>, Complaint>
+    requires { W.can_next words }
+    ensures { (ws : List (List ℕ)) → Gives W.next_gives words ws → meant result ≡ days_command ws }
+{
+    let name = words.next().ok_or(Complaint::DaysWords)?;
+    let first = words.next().ok_or(Complaint::DaysWords)?;
+    let last = words.next().ok_or(Complaint::DaysWords)?;
+    if words.next().is_some() {
+        return Err(Complaint::DaysWords);
+    }
+    let first = read_date(first)?;
+    let last = read_date(last)?;
+    Ok(Command::File(name, FileQuery::Days { first, last }))
+}
+
+// The two commands about a file, by the first word.
+fn file_command<'a, W: Iterator<Item = &'a [u8]>>(
+    keyword: &[u8],
+    words: W,
+) -> Result<Command<'a>, Complaint>
+    requires { W.can_next words }
+    ensures { (ws : List (List ℕ)) → Gives W.next_gives words ws → meant result ≡ file_command keyword.now ws }
+{
+    match keyword {
+        b"check" => check_command(words),
+        b"days" => days_command(words),
+        _ => Err(Complaint::Unknown),
+    }
 }
 
 impl<'a> Command<'a> {
@@ -97,12 +142,12 @@ impl<'a> Command<'a> {
         requires { W.can_next words }
         ensures { (ws : List (List ℕ)) → Gives W.next_gives words ws → meant result ≡ command_of numbers ws }
     {
-        // The three take different arguments, so closures in a table would be no plainer than this match.
+        // They take different arguments, so closures in a table would be no plainer than this match.
         match words.next().ok_or(Complaint::Unknown)? {
             b"date" => date_command(words),
             b"day" => day_command(words, numbers),
             b"year" => year_command(words, numbers),
-            _ => Err(Complaint::Unknown),
+            keyword => file_command(keyword, words),
         }
     }
 }

@@ -1,5 +1,4 @@
--- What a line is answered with: what its command asks for is found on a shelf and said in a line of text, or the line gets
--- a complaint.
+-- What is asked of the calendars is found on a shelf and said in a line of text, or gets a complaint.
 use Rattle.std.specs.Prelude.{◌≡◌, ℕ, List, Some, None, Option, Ok, Err, string_bytes, codes, Result, String}
 use Rattle.calendar.specs.declared.dates.NamedDate.{NamedDate}
 use Rattle.calendar.specs.Sheets.{Almanac, Answered}
@@ -7,7 +6,7 @@ use Rattle.calendar.specs.Dates.{Named}
 use Rattle.calendar.specs.Shelves.{almanac_at, FirstBearing, Bears}
 use Rattle.commands.specs.declared.complaint.Complaint.{Complaint}
 use Rattle.commands.specs.declared.complaint.Complaint.TheVariants.{NoCalendar}
-use Rattle.commands.specs.Commands.{Asked, for_date, for_day, for_year, command_read}
+use Rattle.commands.specs.Commands.{Asked, for_date, for_day, for_year}
 use Rattle.console.specs.declared.answers.AnswerError.{AnswerError}
 use Rattle.console.specs.declared.answers.AnswerError.TheVariants.{Complained, OutOfMemory}
 use Rattle.console.specs.declared.answers.Reply.{Reply}
@@ -55,15 +54,6 @@ pub record Answers (shelf : List Almanac) (a : Asked) (r : Result (List ℕ) Com
   pub found : Result (Option Reply) Complaint
   pub right : Replied shelf a found
   pub says : Told shelf found r
-
--- the answer to what was read, which may be no command
-abbrev pub AnswersRead : List Almanac → Result Asked Complaint → Result (List ℕ) Complaint → Type 0
-AnswersRead shelf (Ok a) r = Answers shelf a r
-AnswersRead shelf (Err e) r = r ≡ Err e
-
--- the answer to a line
-abbrev pub AnswersLine : List Almanac → List ℕ → Result (List ℕ) Complaint → Type 0
-AnswersLine shelf line r = AnswersRead shelf (command_read line) r
 
 -- an answer as its text, or the complaint; neither where memory ran out
 abbrev pub as_text : {Z : Type 0} → Result (String Z) AnswerError → Option (Result (List ℕ) Complaint)

@@ -1,15 +1,15 @@
-// The answers to commands, over any shelf.
+// The answers to what is asked of the calendars, over any shelf.
 ghost use Rattle.std.specs.Prelude.{◌≡◌, IfOk, IfSome, string_bytes};
 ghost use Rattle.commands.specs.Commands.{asks};
-ghost use Rattle.console.specs.Answers.{Replied, InLine, Answers, AnswersLine, as_text};
+ghost use Rattle.console.specs.Answers.{Replied, InLine, Answers, as_text};
 ghost use Rattle.console.specs.declared.answers.AnswerError.TheVariants.{Complained, OutOfMemory};
 
 use crate::lines::{day_line, year_line};
 use calendar::{Sheet, Shelf, day_named};
-use commands::{Command, Complaint, read_command};
+use commands::{Complaint, DateQuery};
 use std::alloc::{AllocError, Global};
 
-// Why a command has no answer.
+// Why a question has no answer.
 #[derive(Clone, Copy, PartialEq, Eq)]
 pub enum AnswerError {
     // it cannot be used
@@ -33,7 +33,7 @@ impl From<AllocError> for AnswerError {
     }
 }
 
-// What a command is answered with.
+// What a question is answered with.
 #[derive(Drop)]
 pub enum Reply {
     // this day, in every calendar
@@ -42,17 +42,17 @@ pub enum Reply {
     Year(usize, u32, Sheet),
 }
 
-// What a command asks for, found on the shelf, or that there is no such date or year.
-fn look_up<S: Shelf>(shelf: &S, command: Command<'_>) -> Result<Option<Reply>, Complaint>
-    ensures { Replied (S.Shelf.held shelf.now) (asks command.entry) result }
+// What is asked of the calendars, found on the shelf, or that there is no such date or year.
+fn look_up<S: Shelf>(shelf: &S, query: DateQuery<'_>) -> Result<Option<Reply>, Complaint>
+    ensures { Replied (S.Shelf.held shelf.now) (asks query.entry) result }
 {
-    match command {
-        Command::Date(day) => Ok(Some(Reply::Day(day))),
-        Command::Day(name, date) => {
+    match query {
+        DateQuery::Date(day) => Ok(Some(Reply::Day(day))),
+        DateQuery::Day(name, date) => {
             let place = shelf.find(name).ok_or(Complaint::NoCalendar)?;
             Ok(day_named(shelf, place, date).map(Reply::Day))
         }
-        Command::Year(name, year) => {
+        DateQuery::Year(name, year) => {
             let place = shelf.find(name).ok_or(Complaint::NoCalendar)?;
             let sheet = shelf.sheet(place, year);
             Ok((sheet.months != 0).then_some(Reply::Year(place, year, sheet)))
@@ -73,21 +73,14 @@ fn reply_line<S: Shelf>(heap: Global, shelf: &S, reply: Option<Reply>) -> Result
     }
 }
 
-// The answer to a command.
-pub fn answer_command<S: Shelf>(
+// The answer to what is asked of the calendars.
+pub fn answer_query<S: Shelf>(
     heap: Global,
     shelf: &S,
-    command: Command<'_>,
+    query: DateQuery<'_>,
 ) -> Result<String, AnswerError>
-    ensures { IfSome (as_text result) (Answers (S.Shelf.held shelf.now) (asks command.entry)) }
+    ensures { IfSome (as_text result) (Answers (S.Shelf.held shelf.now) (asks query.entry)) }
 {
-    let found = look_up(shelf, command)?;
+    let found = look_up(shelf, query)?;
     Ok(reply_line(heap, shelf, found)?)
-}
-
-// The answer to the command on a line.
-pub fn answer<S: Shelf>(heap: Global, shelf: &S, line: &[u8]) -> Result<String, AnswerError>
-    ensures { IfSome (as_text result) (AnswersLine (S.Shelf.held shelf.now) line.now) }
-{
-    answer_command(heap, shelf, read_command(line)?)
 }

@@ -1,7 +1,7 @@
-// The console: answers to commands, as text.
+// The console: answers to what is asked of the calendars, as text.
 #![tactic(auto)]
 
 mod answers;
 mod lines;
 
-pub use answers::{AnswerError, answer, answer_command};
+pub use answers::{AnswerError, answer_query};

@@ -1,0 +1,5 @@
+pub mod Digits
+pub mod EachSaid
+pub mod Judged
+pub mod Ranged
+pub mod Written
