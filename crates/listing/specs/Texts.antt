@@ -8,7 +8,7 @@ use Rattle.days.specs.Digits.{date_read}
 use Rattle.calendar.specs.Sheets.{Almanac}
 use Rattle.calendar.specs.Printing.{padded}
 use Rattle.refusals.specs.declared.asked.FileQuestion.{FileQuestion}
-use Rattle.refusals.specs.Numbers.{file_number, number, letter}
+use Rattle.refusals.specs.Numbers.{file_number}
 use Rattle.refusals.specs.Words.{file_words, words}
 use Rattle.series.specs.Record.{Accepted, kept_in, days_given, days_between}
 use Rattle.series.specs.declared.record.Series.{Series}
@@ -17,6 +17,7 @@ use Rattle.icalendar.specs.Files.{file_read}
 use Rattle.icalendar.specs.Verdicts.{verdicts}
 use Rattle.commands.specs.declared.command.FileQuery.{FileQuery}
 use Rattle.commands.specs.declared.command.FileQuery.TheVariants.{Check, Days}
+use Rattle.report.specs.Lines.{fault_text}
 use Rattle.listing.specs.Lines.{Lines, numbered}
 
 abbrev pub line_end : List ℕ
@@ -28,10 +29,6 @@ line_end = 10 ∷ []
 abbrev pub title_text : Option (List ℕ) → List ℕ
 title_text (Some title) = codes " " ++ title
 title_text None = []
-
--- the place, the layer's letter and the number of a fault
-abbrev pub fault_text : Fault → List ℕ
-fault_text f = padded 5 f.place ++ (codes " " ++ (letter f.failed ++ (codes " " ++ padded 2 (number f.failed))))
 
 -- what becomes of an event, as a series record or a fault has it
 abbrev pub verdict_in : Result Series Fault → Result Accepted Fault

@@ -1,9 +1,12 @@
 // The line of an event: what becomes of it.
 ghost use Rattle.std.specs.Prelude.{◌≡◌, IfOk, Ok, Err, ◌++◌, codes, string_bytes};
 ghost use Rattle.calendar.specs.Printing.{padded};
-ghost use Rattle.listing.specs.Texts.{title_text, fault_text, verdict_in, verdict_text, event_line};
+ghost use Rattle.refusals.specs.Words.{words};
+ghost use Rattle.listing.specs.Texts.{title_text, verdict_in, verdict_text, event_line};
 
 use icalendar::Fault;
+use refusals::Failed;
+use report::fault_text;
 use series::Series;
 use short_lists::ShortList;
 use std::alloc::{AllocError, Global};
@@ -20,14 +23,21 @@ fn title_text(heap: Global, title: &Option<ShortList<u8, 32>>) -> Result<Vec<u8>
     Ok(text)
 }
 
-// The place, the layer's letter and the number of a fault.
-fn fault_text(heap: Global, fault: &Fault) -> Result<String, AllocError>
-    ensures { IfOk result (λ text. string_bytes text ≡ fault_text fault.now) }
+// The words of the question that an event fails, after a blank.
+fn question_text(heap: Global, question: Failed) -> Result<String, AllocError>
+    ensures { IfOk result (λ text. string_bytes text ≡ codes " " ++ words question) }
 {
-    let Fault { place, failed } = *fault;
-    let letter = failed.letter();
-    let number = failed.number();
-    format!(in heap; "{place:05} {letter} {number:02}")
+    format!(in heap; " {question}")
+}
+
+// What is said of a fault.
+fn fault_said(heap: Global, fault: &Fault) -> Result<Vec<u8>, AllocError>
+    ensures { IfOk result (λ text. text.items ≡ verdict_text (Err fault.now)) }
+{
+    let mut text = format!(in heap; "fault ")?.into_bytes();
+    text.extend_from_slice(&fault_text(*fault))?;
+    text.extend_from_slice(question_text(heap, fault.failed)?.as_bytes())?;
+    Ok(text)
 }
 
 // What becomes of an event.
@@ -40,11 +50,7 @@ fn verdict_text(heap: Global, verdict: &Result<Series, Fault>) -> Result<Vec<u8>
             text.extend_from_slice(title_text(heap, &series.title)?.as_slice())?;
             Ok(text)
         }
-        Err(fault) => {
-            let place = fault_text(heap, fault)?;
-            let question = fault.failed;
-            Ok(format!(in heap; "fault {place} {question}")?.into_bytes())
-        }
+        Err(fault) => fault_said(heap, fault),
     }
 }
 

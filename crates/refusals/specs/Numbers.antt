@@ -1,8 +1,10 @@
 -- The number of each question, and the letter of the layer of those that an event is asked: E for the event's own lines, R for
 -- the text of its rule, C for the rule's calendar.
-use Rattle.std.specs.Prelude.{ℕ, List, codes}
+use Rattle.std.specs.Prelude.{ℕ}
 use Rattle.refusals.specs.declared.asked.FileQuestion.{FileQuestion}
 use Rattle.refusals.specs.declared.asked.FileQuestion.TheVariants.{Size, LineEnds, LineForms, Nesting}
+use Rattle.refusals.specs.declared.asked.PlanQuestion.{PlanQuestion}
+use Rattle.refusals.specs.declared.asked.PlanQuestion.TheVariants.{FullTables, WindowInRange, WindowInOrder, FewFiles, RoomForSeries, RoomForFaults, DayInWindow, DayNotPassed, RoomForReport}
 use Rattle.refusals.specs.declared.asked.EventQuestion.{EventQuestion}
 use Rattle.refusals.specs.declared.asked.EventQuestion.TheVariants.{OneStart, StartDate, StartInRange, OneRule, DateLists, FewDates, NothingReplaced}
 use Rattle.refusals.specs.declared.asked.RuleQuestion.{RuleQuestion}
@@ -19,6 +21,19 @@ file_number Size = 4
 file_number LineEnds = 5
 file_number LineForms = 7
 file_number Nesting = 8
+
+-- ── a call of the plan ──
+
+abbrev pub plan_number : PlanQuestion → ℕ
+plan_number FullTables = 1
+plan_number WindowInRange = 2
+plan_number WindowInOrder = 3
+plan_number FewFiles = 9
+plan_number RoomForSeries = 10
+plan_number RoomForFaults = 11
+plan_number DayInWindow = 12
+plan_number DayNotPassed = 13
+plan_number RoomForReport = 14
 
 -- ── an event's own lines, layer E ──
 
@@ -56,7 +71,8 @@ number (Event q) = event_number q
 number (Rule q) = rule_number q
 number (Calendar q) = calendar_number q
 
-abbrev pub letter : Failed → List ℕ
-letter (Event q) = codes "E"
-letter (Rule q) = codes "R"
-letter (Calendar q) = codes "C"
+-- as a byte
+abbrev pub letter : Failed → ℕ
+letter (Event q) = 69
+letter (Rule q) = 82
+letter (Calendar q) = 67

@@ -2,6 +2,8 @@
 use Rattle.std.specs.Prelude.{ℕ, List, codes}
 use Rattle.refusals.specs.declared.asked.FileQuestion.{FileQuestion}
 use Rattle.refusals.specs.declared.asked.FileQuestion.TheVariants.{Size, LineEnds, LineForms, Nesting}
+use Rattle.refusals.specs.declared.asked.PlanQuestion.{PlanQuestion}
+use Rattle.refusals.specs.declared.asked.PlanQuestion.TheVariants.{FullTables, WindowInRange, WindowInOrder, FewFiles, RoomForSeries, RoomForFaults, DayInWindow, DayNotPassed, RoomForReport}
 use Rattle.refusals.specs.declared.asked.EventQuestion.{EventQuestion}
 use Rattle.refusals.specs.declared.asked.EventQuestion.TheVariants.{OneStart, StartDate, StartInRange, OneRule, DateLists, FewDates, NothingReplaced}
 use Rattle.refusals.specs.declared.asked.RuleQuestion.{RuleQuestion}
@@ -18,6 +20,19 @@ file_words Size = codes "has it at most 60,000 bytes?"
 file_words LineEnds = codes "has it lines, each ending in CR LF, with no other CR or LF?"
 file_words LineForms = codes "is each line a name, parameters each begun by a semicolon, and a colon outside quotes?"
 file_words Nesting = codes "is it one VCALENDAR, each END matching the innermost BEGIN, at most eight levels deep?"
+
+-- ── a call of the plan ──
+
+abbrev pub plan_words : PlanQuestion → List ℕ
+plan_words FullTables = codes "are all places of the tables in use, and one of the queue for each series?"
+plan_words WindowInRange = codes "are both days from 1900 to 2199?"
+plan_words WindowInOrder = codes "is the first day not after the last?"
+plan_words FewFiles = codes "are fewer than 999 files accepted?"
+plan_words RoomForSeries = codes "have series and queue as many free places as the file has events?"
+plan_words RoomForFaults = codes "have the faults as many free places as the file has events?"
+plan_words DayInWindow = codes "is the day in the window?"
+plan_words DayNotPassed = codes "is the day not before the mark's?"
+plan_words RoomForReport = codes "has the text buffer 19 bytes for each fault?"
 
 -- ── an event's own lines, layer E ──
 

@@ -13,6 +13,29 @@ pub enum FileQuestion {
     Nesting = 8,
 }
 
+// What a call of the plan is asked, beside what a file is.
+#[derive(Clone, Copy, Debug, PartialEq, Eq)]
+pub enum PlanQuestion {
+    // all places in use in each table, and one of the queue for each series
+    FullTables = 1,
+    // both days of the window in the range
+    WindowInRange = 2,
+    // its first day not after its last
+    WindowInOrder = 3,
+    // fewer than 999 files accepted
+    FewFiles = 9,
+    // as many free series and queue places as the file has events
+    RoomForSeries = 10,
+    // as many free fault places too
+    RoomForFaults = 11,
+    // the day in the window
+    DayInWindow = 12,
+    // the day not before the mark's
+    DayNotPassed = 13,
+    // 19 bytes of the text buffer for each fault
+    RoomForReport = 14,
+}
+
 // What an event's own lines are asked.
 #[derive(Clone, Copy, Debug, PartialEq, Eq)]
 pub enum EventQuestion {

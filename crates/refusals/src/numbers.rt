@@ -1,12 +1,22 @@
 // The numbers of the questions, and the letters of their layers.
 ghost use Rattle.std.specs.Prelude.{◌≡◌};
-ghost use Rattle.refusals.specs.Numbers.{file_number, event_number, rule_number, calendar_number, number, letter};
+ghost use Rattle.refusals.specs.Numbers.{file_number, plan_number, event_number, rule_number, calendar_number, number, letter};
 
-use crate::asked::{CalendarQuestion, EventQuestion, Failed, FileQuestion, RuleQuestion};
+use crate::asked::{
+    CalendarQuestion, EventQuestion, Failed, FileQuestion, PlanQuestion, RuleQuestion,
+};
 
 impl FileQuestion {
     pub fn number(self) -> u8
         ensures { result ≡ file_number self }
+    {
+        self as u8
+    }
+}
+
+impl PlanQuestion {
+    pub fn number(self) -> u8
+        ensures { result ≡ plan_number self }
     {
         self as u8
     }
@@ -47,14 +57,14 @@ impl Failed {
         }
     }
 
-    // The letter of the layer.
-    pub fn letter(self) -> &'static str
-        ensures { result.now ≡ letter self }
+    // The letter of the layer, as a byte.
+    pub fn letter(self) -> u8
+        ensures { result ≡ letter self }
     {
         match self {
-            Failed::Event(_) => "E",
-            Failed::Rule(_) => "R",
-            Failed::Calendar(_) => "C",
+            Failed::Event(_) => b'E',
+            Failed::Rule(_) => b'R',
+            Failed::Calendar(_) => b'C',
         }
     }
 }

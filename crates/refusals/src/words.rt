@@ -1,8 +1,10 @@
 // The questions in words.
 ghost use Rattle.std.specs.Prelude.{Some};
-ghost use Rattle.refusals.specs.Words.{file_words, event_words, rule_words, calendar_words, words};
+ghost use Rattle.refusals.specs.Words.{file_words, plan_words, event_words, rule_words, calendar_words, words};
 
-use crate::asked::{CalendarQuestion, EventQuestion, Failed, FileQuestion, RuleQuestion};
+use crate::asked::{
+    CalendarQuestion, EventQuestion, Failed, FileQuestion, PlanQuestion, RuleQuestion,
+};
 use std::fmt;
 
 impl fmt::Display for FileQuestion {
@@ -22,6 +24,36 @@ impl fmt::Display for FileQuestion {
             FileQuestion::Nesting => write!(
                 f,
                 "is it one VCALENDAR, each END matching the innermost BEGIN, at most eight levels deep?"
+            ),
+        }
+    }
+}
+
+impl fmt::Display for PlanQuestion {
+    ghost output = { λ question. Some (plan_words question) };
+
+    fn fmt<W: fmt::Write>(&self, f: &mut fmt::Formatter<W>) -> fmt::Result {
+        match self {
+            PlanQuestion::FullTables => write!(
+                f,
+                "are all places of the tables in use, and one of the queue for each series?"
+            ),
+            PlanQuestion::WindowInRange => write!(f, "are both days from 1900 to 2199?"),
+            PlanQuestion::WindowInOrder => write!(f, "is the first day not after the last?"),
+            PlanQuestion::FewFiles => write!(f, "are fewer than 999 files accepted?"),
+            PlanQuestion::RoomForSeries => write!(
+                f,
+                "have series and queue as many free places as the file has events?"
+            ),
+            PlanQuestion::RoomForFaults => write!(
+                f,
+                "have the faults as many free places as the file has events?"
+            ),
+            PlanQuestion::DayInWindow => write!(f, "is the day in the window?"),
+            PlanQuestion::DayNotPassed => write!(f, "is the day not before the mark's?"),
+            PlanQuestion::RoomForReport => write!(
+                f,
+                "has the text buffer 19 bytes for each fault?"
             ),
         }
     }
