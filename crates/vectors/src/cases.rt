@@ -1,43 +1,47 @@
-// A case: a name, and the bytes of a file.
-ghost use Rattle.std.specs.Prelude.{◌≡◌, IfOk};
-ghost use Rattle.std.specs.Option.{option_map};
-
+// A case: a name, that of a shelf, and the bytes of a file.
 use crate::escapes::plain_bytes;
 use std::alloc::{AllocError, Global};
 
 #[derive(Drop)]
 pub(crate) struct Case {
     name: Vec<u8>,
+    shelf: Vec<u8>,
     file: Vec<u8>,
 }
 
 impl Case {
-    pub(crate) fn name(&self) -> &[u8]
-        ensures { result.now ≡ self.now.name.items }
-    {
+    pub(crate) fn name(&self) -> &[u8] {
         self.name.as_slice()
     }
 
-    pub(crate) fn file(&self) -> &[u8]
-        ensures { result.now ≡ self.now.file.items }
-    {
+    pub(crate) fn shelf(&self) -> &[u8] {
+        self.shelf.as_slice()
+    }
+
+    pub(crate) fn file(&self) -> &[u8] {
         self.file.as_slice()
     }
 }
 
-// The name and the text of a case's line: `file NAME TEXT`.
-fn parts(line: &[u8]) -> Option<(&[u8], &[u8])> {
-    let rest = line.strip_prefix(b"file ")?;
-    let end = rest.iter().position(|b| *b == b' ')?;
-    Some((&rest[..end], &rest[end + 1..]))
+// A line's first word and what stands after the blank behind it.
+pub(crate) fn first_word(line: &[u8]) -> Option<(&[u8], &[u8])> {
+    let end = line.iter().position(|b| *b == b' ')?;
+    Some((&line[..end], &line[end + 1..]))
+}
+
+// The name, the shelf and the text of a case's line: `file NAME SHELF TEXT`.
+fn parts(line: &[u8]) -> Option<(&[u8], &[u8], &[u8])> {
+    let (name, rest) = first_word(line.strip_prefix(b"file ")?)?;
+    let (shelf, text) = first_word(rest)?;
+    Some((name, shelf, text))
 }
 
 // The case on a line, if it is one.
 pub(crate) fn case_on(heap: Global, line: &[u8]) -> Result<Option<Case>, AllocError> {
-    let Some((name, text)) = parts(line) else {
+    let Some((name, shelf, text)) = parts(line) else {
         return Ok(None);
     };
-    let mut kept = Vec::new(heap);
-    kept.extend_from_slice(name)?;
-    Ok(plain_bytes(heap, text)?.map(|file| Case { name: kept, file }))
+    let name = Vec::from_slice(heap, name)?;
+    let shelf = Vec::from_slice(heap, shelf)?;
+    Ok(plain_bytes(heap, text)?.map(|file| Case { name, shelf, file }))
 }

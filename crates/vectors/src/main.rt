@@ -4,46 +4,61 @@
 
 mod cases;
 mod escapes;
+mod shelves;
 mod timing;
 
-use calendar::{Empty, On};
+use calendar::Empty;
 use calendars::coptic::Coptic;
 use calendars::gregorian::Gregorian;
 use calendars::hebrew::Hebrew;
-use calendars::islamic::IslamicCivil;
-use cases::{Case, case_on};
+use cases::{Case, case_on, first_word};
 use commands::{Command, FileQuery, Numbers, read_command};
 use console::{AnswerError, answer_query};
 use icalendar::ReadError;
 use listing::file_text;
+use other_calendars::many_leaps::ManyLeaps;
+use other_calendars::same_name::SameName;
+use other_calendars::short_months::ShortMonths;
+use shelves::{eight, four_and, on};
+use std::alloc::{AllocError, Global};
 use std::io;
 use std::io::{BufRead, BufReader, Write};
 use std::time::Instant;
 use timing::ask;
 
-const SHELF: On<Gregorian, On<Coptic, On<IslamicCivil, On<Hebrew, Empty>>>> = On {
-    calendar: Gregorian,
-    rest: On {
-        calendar: Coptic,
-        rest: On {
-            calendar: IslamicCivil,
-            rest: On {
-                calendar: Hebrew,
-                rest: Empty,
-            },
-        },
-    },
-};
+// What is said of a case's file over the shelf of a name, or none where no shelf has the name.
+fn said_of_case(
+    heap: Global,
+    case: &Case,
+    query: FileQuery,
+) -> Result<Option<Vec<u8>>, AllocError> {
+    let file = case.file();
+    let text = match case.shelf() {
+        b"none" => file_text(heap, &Empty, query, file),
+        b"hebrew" => file_text(heap, &on(Hebrew, Empty), query, file),
+        b"hebrew-gregorian" => file_text(heap, &on(Hebrew, on(Gregorian, Empty)), query, file),
+        b"hebrew-coptic" => file_text(heap, &on(Hebrew, on(Coptic, Empty)), query, file),
+        b"four" => file_text(heap, &four_and(Empty), query, file),
+        b"four-leaps" => file_text(heap, &four_and(on(ManyLeaps, Empty)), query, file),
+        b"four-short" => file_text(heap, &four_and(on(ShortMonths, Empty)), query, file),
+        b"same-name-four" => file_text(heap, &on(SameName, four_and(Empty)), query, file),
+        b"eight" => file_text(heap, &eight(), query, file),
+        _ => return Ok(None),
+    };
+    text.map(Some)
+}
 
 // Answers a question of the last case, or of the calendars.
 fn respond(rt: &HostRuntime, case: &Option<Case>, line: &[u8]) -> io::Result<()> {
     let answer = match (read_command(line), case) {
         (Ok(Command::File(name, query)), Some(case)) if name == case.name() => {
-            let text = file_text(rt.alloc(), &SHELF, query, case.file())?;
-            return rt.stdout().write_all(text.as_slice());
+            return match said_of_case(rt.alloc(), case, query)? {
+                Some(text) => rt.stdout().write_all(text.as_slice()),
+                None => println!(rt; "no shelf of that name"),
+            };
         }
         (Ok(Command::File(_, _)), _) => return println!(rt; "not the last case"),
-        (Ok(Command::Dates(query)), _) => answer_query(rt.alloc(), &SHELF, query),
+        (Ok(Command::Dates(query)), _) => answer_query(rt.alloc(), &four_and(Empty), query),
         (Err(complaint), _) => Err(AnswerError::Complained(complaint)),
     };
     match answer {
@@ -55,10 +70,8 @@ fn respond(rt: &HostRuntime, case: &Option<Case>, line: &[u8]) -> io::Result<()>
 
 // How often a question is to be asked and the question, on a line `time ROUNDS days NAME FIRST LAST`.
 fn timed(line: &[u8]) -> Option<(u32, &[u8])> {
-    let rest = line.strip_prefix(b"time ")?;
-    let end = rest.iter().position(|b| *b == b' ')?;
-    let rounds = Numbers::Digits.read(&rest[..end], u32::MAX)?;
-    Some((rounds, &rest[end + 1..]))
+    let (rounds, question) = first_word(line.strip_prefix(b"time ")?)?;
+    Some((Numbers::Digits.read(rounds, u32::MAX)?, question))
 }
 
 // Tells how many questions were asked for the days of the last case's events, and how long that took.
@@ -70,7 +83,14 @@ fn time(rt: &HostRuntime, case: &Option<Case>, rounds: u32, line: &[u8]) -> io::
         return println!(rt; "not days of a case");
     };
     let begun = Instant::now(rt)?;
-    let asked = ask(rt.alloc(), &SHELF, case.file(), first, last, rounds);
+    let asked = ask(
+        rt.alloc(),
+        &four_and(Empty),
+        case.file(),
+        first,
+        last,
+        rounds,
+    );
     let micros = begun.elapsed(rt)?.as_micros();
     match asked {
         Ok(asked) => println!(rt; "{asked} questions in {micros} microseconds"),

@@ -1,0 +1,5 @@
+pub mod Given
+pub mod SameName
+pub mod ShortMonths
+pub mod ManyLeaps
+pub mod Laws
