@@ -1,4 +1,6 @@
 // A case: a name, that of a shelf, and the bytes of a file.
+ghost use Rattle.std.specs.Prelude.{◌≡◌};
+
 use crate::escapes::plain_bytes;
 use std::alloc::{AllocError, Global};
 
@@ -10,15 +12,21 @@ pub(crate) struct Case {
 }
 
 impl Case {
-    pub(crate) fn name(&self) -> &[u8] {
+    pub(crate) fn name(&self) -> &[u8]
+        ensures { result.now ≡ self.now.name.items }
+    {
         self.name.as_slice()
     }
 
-    pub(crate) fn shelf(&self) -> &[u8] {
+    pub(crate) fn shelf(&self) -> &[u8]
+        ensures { result.now ≡ self.now.shelf.items }
+    {
         self.shelf.as_slice()
     }
 
-    pub(crate) fn file(&self) -> &[u8] {
+    pub(crate) fn file(&self) -> &[u8]
+        ensures { result.now ≡ self.now.file.items }
+    {
         self.file.as_slice()
     }
 }

@@ -1,4 +1,6 @@
 // The shelves of the cases.
+ghost use Rattle.std.specs.Prelude.{◌≡◌};
+
 use calendar::{Empty, On};
 use calendars::coptic::Coptic;
 use calendars::gregorian::Gregorian;
@@ -23,12 +25,17 @@ pub(crate) type Eight = On<
     >,
 >;
 
-pub(crate) fn on<C, R>(calendar: C, rest: R) -> On<C, R> {
+// A calendar beside a shorter shelf.
+pub(crate) fn on<C, R>(calendar: C, rest: R) -> On<C, R>
+    ensures { (result.calendar ≡ calendar) × (result.rest ≡ rest) }
+{
     On { calendar, rest }
 }
 
 // The four before others.
-pub(crate) fn four_and<R>(rest: R) -> FourAnd<R> {
+pub(crate) fn four_and<R>(rest: R) -> FourAnd<R>
+    ensures { result.rest.rest.rest.rest ≡ rest }
+{
     on(Gregorian, on(Coptic, on(IslamicCivil, on(Hebrew, rest))))
 }
 
