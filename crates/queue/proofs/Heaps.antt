@@ -1,6 +1,6 @@
 -- An entry rises and sinks in a heap, and the first entry of a heap is its least.
 -- The library has heaps of its own types only, and none over lent places.
-use Rattle.std.proofs.Common.{◌≡◌, ℕ, zero, suc, ◌+◌, ◌-◌, ◌*◌, ◌/◌, ◌<◌, ◌≤◌, Bool, true, false, List, length, get_or, take, sym, refl, ap, ◌∙◌, subst, ⊎_elim, arith}
+use Rattle.std.proofs.Common.{◌≡◌, ◌≢◌, ℕ, zero, suc, ◌+◌, ◌-◌, ◌*◌, ◌/◌, ◌<◌, ◌≤◌, Bool, true, false, List, length, get_or, take, sym, refl, ap, ◌∙◌, subst, ⊎_elim, arith}
 use Rattle.std.specs.List.{ContainsAt as Has}
 use Rattle.std.proofs.lemmas.List.{get_or_read}
 use Rattle.std.proofs.lemmas.Bool.{cases_eq, cases_Bool}
@@ -22,6 +22,13 @@ module _ {X : Type 0} (before : X → X → Bool) where
   -- lists that agree on their first n places
   pub heaped_same : (xs ys : List X) (n : ℕ) → ((k : ℕ) (d : X) → k < n → get_or ys k d ≡ get_or xs k d) → Heaped before xs n → Heaped before ys n
   heaped_same xs ys n e h p k d a b f = alike (e k d f) (e p d (omega arith)) (h p k d a b f)
+
+  -- a heap's first n places, when another entry is put into the first
+  pub new_first : (xs zs : List X) (m n : ℕ) → n ≤ m → ((k : ℕ) (d : X) → (k ≢ 0) → k < n → get_or zs k d ≡ get_or xs k d) → Heaped before xs m → HeapedBut before zs 0 n
+  new_first xs zs m n few e h = (
+    λ p k d a b f u v. alike (e k d v f) (e p d u (omega arith)) (h p k d a b (omega arith)),
+    λ p k d a. absurd (omega arith),
+  )
 
   module _ (o : Strict before) where
     -- no entry is before itself

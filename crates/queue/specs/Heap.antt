@@ -13,10 +13,11 @@ pub record Least {X : Type 0} (before : X → X → Bool) (x : X) (entries : Lis
   pub among : Has entries x
   pub first : (y : X) → Has entries y → before y x ≡ false
 
--- x is taken out: it is the least of the entries in use, and the places in use but one hold the others
+-- x is taken out: it is the least of the entries in use, if these stood in heap order, and the places in use but one hold the
+-- others
 pub record Taken {X : Type 0} (before : X → X → Bool) (used : ℕ) (old new : List X) (x : X) : Type 0 where
   pub some : 0 < used
-  pub least : Least before x (take used old)
+  pub least : Heaped before old used → Least before x (take used old)
   pub others : IsPermutation (take used old) (x ∷ take (used - 1) new)
 
 -- what a pop answers, which turns the places `old` into `new`: none exactly if no place is in use, and then nothing changes

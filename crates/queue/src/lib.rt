@@ -43,10 +43,9 @@ fn earlier<T: Entry>(a: T, b: T) -> bool
 
 // Moves the last entry up past the later ones above it. A walk from child to parent, which no iterator makes.
 fn rise<T: Entry>(front: &mut [T])
-    requires some { 0 < length front.old }
-    requires heaped { Heaped T.Entry.before front.old (length front.old - 1) }
+    requires { 0 < length front.old }
     ensures entries { IsPermutation front.old front.new }
-    ensures heaped { Heaped T.Entry.before front.new (length front.new) }
+    ensures heaped { Heaped T.Entry.before front.old (length front.old - 1) → Heaped T.Entry.before front.new (length front.new) }
 {
     let mut j = front.len() - 1;
     while 0 < j {
@@ -76,9 +75,8 @@ fn earlier_child<T: Entry>(front: &[T], j: usize) -> usize
 
 // Moves the first entry down past the earlier ones below it. A walk from parent to child, which no iterator makes.
 fn sink<T: Entry>(front: &mut [T])
-    requires { HeapedBut T.Entry.before front.old 0 (length front.old) }
     ensures entries { IsPermutation front.old front.new }
-    ensures heaped { Heaped T.Entry.before front.new (length front.new) }
+    ensures heaped { HeapedBut T.Entry.before front.old 0 (length front.old) → Heaped T.Entry.before front.new (length front.new) }
 {
     let mut j = 0;
     while j < front.len() / 2 {
@@ -92,24 +90,24 @@ fn sink<T: Entry>(front: &mut [T])
 }
 
 // Adds an entry to those of the first `used` places, which then take up one place more. For an owner who lends the places
-// anew at each call and keeps the number; `Queue` is for one loan.
+// anew at each call and keeps the number; `Queue` is for one loan. The places may hold anything, since what an owner
+// keeps may be untested: they are in heap order afterwards if they were before.
 pub fn push<T: Entry>(slots: &mut [T], used: usize, entry: T)
     requires room { used < length slots.old }
-    requires heaped { Heaped T.Entry.before slots.old used }
     ensures entries { IsPermutation (entry ∷ take used slots.old) (take (used + 1) slots.new) }
-    ensures heaped { Heaped T.Entry.before slots.new (used + 1) }
+    ensures heaped { Heaped T.Entry.before slots.old used → Heaped T.Entry.before slots.new (used + 1) }
     ensures beyond { drop (used + 1) slots.new ≡ drop (used + 1) slots.old }
 {
     slots[used] = entry;
     rise(&mut slots[0..used + 1]);
 }
 
-// Takes the least entry of the first `used` places, and leaves the others in the first `used - 1`.
+// Takes the least entry of the first `used` places, and leaves the others in the first `used - 1`. Of places that are not
+// in heap order it takes one entry all the same.
 pub fn pop<T: Entry>(slots: &mut [T], used: usize) -> Option<T>
     requires within { used ≤ length slots.old }
-    requires heaped { Heaped T.Entry.before slots.old used }
     ensures popped { Popped T.Entry.before used slots.old slots.new result }
-    ensures heaped { Heaped T.Entry.before slots.new (used - 1) }
+    ensures heaped { Heaped T.Entry.before slots.old used → Heaped T.Entry.before slots.new (used - 1) }
     ensures beyond { drop used slots.new ≡ drop used slots.old }
 {
     if used == 0 {

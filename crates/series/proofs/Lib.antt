@@ -1,3 +1,4 @@
 pub mod Between
 pub mod Days
+pub mod Endings
 pub mod Kept

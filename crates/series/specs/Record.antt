@@ -1,11 +1,13 @@
 -- What is kept of an accepted event, the days that it gives, and how a series record keeps it.
-use Rattle.std.specs.Prelude.{◌≡◌, ℕ, ◌+◌, ◌-◌, Bool, true, ◌&&◌, List, Some, None, Option}
+use Rattle.std.specs.Prelude.{◌≡◌, ℕ, ◌+◌, ◌-◌, Bool, true, ◌&&◌, List, Some, None, Option, unwrap_or}
 use Rattle.std.specs.List.{filter, range_with_len}
 use Rattle.days.specs.Numbers.{in_range}
 use Rattle.calendar.specs.Sheets.{Almanac}
 use Rattle.calendar.specs.Shelves.{almanac_at}
 use Rattle.sources.specs.declared.events.Limit.{Limit}
 use Rattle.sources.specs.declared.events.Limit.TheVariants.{Endless}
+use Rattle.sources.specs.declared.events.Ending.{Ending}
+use Rattle.sources.specs.declared.events.Ending.TheVariants.{Endless as EndsNever, Until as EndsWith, Count as EndsAfter}
 use Rattle.sources.specs.Sets.{single}
 use Rattle.sources.specs.Events.{event_days, limit_in, Kept as KeptRight}
 use Rattle.rules.specs.Meaning.{gives}
@@ -69,6 +71,13 @@ kept_in s = record { file = s.file; ruled = ruled_in s.recurrence; start = s.sta
 abbrev pub LastRight : List Almanac → ℕ → Option Recurrence → Type 0
 LastRight shelf start (Some r) = KeptRight (gives (almanac_at shelf r.place) r.rule start) r.ending
 LastRight shelf start None = Unit {0}
+
+-- The ending that a question goes by. For a COUNT it ends with the day that is kept as the last of the counted days, right or
+-- not, and where none is kept with 0, which is before the range.
+abbrev pub as_kept : Ending → Ending
+as_kept EndsNever = EndsNever
+as_kept (EndsWith day) = EndsWith day
+as_kept (EndsAfter n last) = EndsWith (unwrap_or last 0)
 
 -- what a question to a series needs, whose start is in the range by its type
 pub record Ready (shelf : List Almanac) (s : Series) : Type 0 where

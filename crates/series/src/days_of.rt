@@ -1,17 +1,28 @@
 // The days of a series.
 ghost use Rattle.std.specs.Prelude.{◌≡◌, IfOk};
 ghost use Rattle.sources.specs.Sets.{Found};
-ghost use Rattle.series.specs.Record.{series_days, days_between, Ready};
+ghost use Rattle.series.specs.Record.{series_days, days_between, as_kept, Ready};
 
 use crate::record::Series;
 use events::{RuleShelf, ShelfRule};
 use sources::{Amendments, Ending, Event, Single, Source};
 use std::alloc::{AllocError, Global};
 
-// The least day at or after `from` that the series gives.
+// The ending with the day that is kept in place of its count, since a source asks that the last day of a count be right.
+fn as_kept(ending: Ending) -> Ending
+    ensures { result ≡ as_kept ending }
+{
+    match ending {
+        Ending::Endless => Ending::Endless,
+        Ending::Until(day) => Ending::Until(day),
+        Ending::Count { last, .. } => Ending::Until(last.unwrap_or(0)),
+    }
+}
+
+// The least day at or after `from` that the series gives. What a record in its owner's table keeps with its ending may be
+// wrong, and then the answer may be too.
 pub fn next_day<S: RuleShelf>(shelf: &S, series: &Series, from: u32) -> Option<u32>
-    requires { Ready (S.Shelf.held shelf.now) series.now }
-    ensures { Found (series_days (S.Shelf.held shelf.now) series.now) from result }
+    ensures { Ready (S.Shelf.held shelf.now) series.now → Found (series_days (S.Shelf.held shelf.now) series.now) from result }
 {
     let amendments = Amendments {
         added: series.rdates.items(),
@@ -25,7 +36,7 @@ pub fn next_day<S: RuleShelf>(shelf: &S, series: &Series, from: u32) -> Option<u
                 rule: &recurrence.rule,
                 start: series.start,
             },
-            ending: recurrence.ending,
+            ending: as_kept(recurrence.ending),
             amendments,
         }
         .next(from),

@@ -9,6 +9,10 @@ use Rattle.sources.specs.Sets.{DayOf, Least, Last, LastOf, Same, until, first_n,
 same_tests : (a b c d : ℕ) → (a ≤ b → c < d) → (c < d → a ≤ b) → leb a b ≡ ltb c d
 same_tests a b c d there back = grind (arith, nat_tests)
 
+-- the range begins after 0
+past_zero : (e : ℕ) → in_range e ≡ true → 0 < e
+past_zero e r = grind (arith, nat_tests)
+
 module _ (set : ℕ → Bool) where
   -- a day of the set is counted directly after it
   below_on : (d : ℕ) → DayOf set d → count_below set (d + 1) ≡ count_below set d + 1
@@ -73,12 +77,20 @@ module _ (set : ℕ → Bool) where
         ends = λ e p h. ⊎_elim (λ (lt : e < at). omega arith) (λ (ge : at ≤ e). absurd (omega (arith, over e p ge))) (cases_lt e at);
       }
 
-  -- the first n days are the days until the last of them
-  pub first_until : (n d : ℕ) → Last set n d → Same (until set d) (first_n set n)
-  first_until n d l e r =
+  -- the first n days are the days until d, if each of either is one of the other
+  until_first : (n d : ℕ) → ((e : ℕ) → DayOf set e → count_below set e < n → e ≤ d) → ((e : ℕ) → DayOf set e → e ≤ d → count_below set e < n) → Same (until set d) (first_n set n)
+  until_first n d ends among e r =
       ⊎_elim
       (λ (on : set e ≡ true).
-      let below : e ≤ d → count_below set e < n = λ h. omega (arith, below_mono e d h, l.among) in
-      let t = same_tests e d (count_below set e) n below (l.ends e (record { ranged = r; on = on })) in
+      let o : DayOf set e = record { ranged = r; on = on } in
+      let t = same_tests e d (count_below set e) n (among e o) (ends e o) in
       cc)
       (λ (off : set e ≡ false). rw off refl) (cases_Bool (set e))
+
+  -- the first n days are the days until the last of them
+  pub first_until : (n d : ℕ) → Last set n d → Same (until set d) (first_n set n)
+  first_until n d l = until_first n d l.ends (λ e o h. omega (arith, below_mono e d h, l.among))
+
+  -- and the days until 0, which is before the range, where there are none
+  pub none_until : (n : ℕ) → LastOf set n None → Same (until set 0) (first_n set n)
+  none_until n none = until_first n 0 (λ e o h. absurd (none e o h)) (λ e o h. absurd (omega (arith, past_zero e o.ranged)))

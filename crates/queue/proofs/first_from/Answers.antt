@@ -22,7 +22,7 @@ loop-entry-preserved g c =
     let early : before x c.args.from ≡ true = rw c.earlier.ensures at c.if-not-earlier.false in (
       omega arith,
       omega arith,
-      c.pop.ensures.heaped,
+      c.pop.ensures.heaped l.invariant.2,
       past_later c.pop.new.slots l.slots c.args.slots.now l.left c.args.used (omega arith) c.pop.ensures.beyond l.invariant.3,
       λ y h. l.invariant.4 y (with_keeps x rest had others y h),
       λ y h late. ⊎_elim (λ e. absurd (both_ways (before y c.args.from) late (subst (λ z. before z c.args.from ≡ true) e early))) (λ m. m)

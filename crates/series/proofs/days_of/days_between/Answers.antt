@@ -12,7 +12,7 @@ loop-day-preserved g c =
     let day = c.in-Some.day in
     rw c.in_ok-push.ensures.items
     (append_snoc (vec_items c.loop-day.days) day _
-    ∙ ap (λ ds. vec_items c.loop-day.days ++ ds) (sym (next set c.loop-day.from c.args.last day c.in-Some.ensures (omega arith)))
+    ∙ ap (λ ds. vec_items c.loop-day.days ++ ds) (sym (next set c.loop-day.from c.args.last day (c.in-Some.ensures c.requires) (omega arith)))
     ∙ c.loop-day.invariant)
 
 pub returns : goal.returns
@@ -21,7 +21,7 @@ returns g c =
     let so_far = c.loop-day.invariant in
     let none : days_between set c.loop-day.from c.args.last ≡ [] =
     elim c.match-next_day.branch [
-      | in-Some+then-day-last w ↦ past set c.loop-day.from c.args.last w.in-Some.day w.in-Some.ensures (omega arith)
-      | in_default w ↦ ended set c.loop-day.from c.args.last w.in_default.ensures
+      | in-Some+then-day-last w ↦ past set c.loop-day.from c.args.last w.in-Some.day (w.in-Some.ensures c.requires) (omega arith)
+      | in_default w ↦ ended set c.loop-day.from c.args.last (w.in_default.ensures c.requires)
     ] in
     sym (append-nil (vec_items c.loop-day.days)) ∙ ap (λ ds. vec_items c.loop-day.days ++ ds) (sym none) ∙ so_far
