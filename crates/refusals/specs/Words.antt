@@ -24,7 +24,7 @@ file_words Nesting = codes "is it one VCALENDAR, each END matching the innermost
 -- ── a call of the plan ──
 
 abbrev pub plan_words : PlanQuestion → List ℕ
-plan_words FullTables = codes "are all places of the tables in use, and one of the queue for each series?"
+plan_words FullTables = codes "has each table all places in use, and the queue one for each series?"
 plan_words WindowInRange = codes "are both days from 1900 to 2199?"
 plan_words WindowInOrder = codes "is the first day not after the last?"
 plan_words FewFiles = codes "are fewer than 999 files accepted?"

@@ -16,7 +16,7 @@ pub enum FileQuestion {
 // What a call of the plan is asked, beside what a file is.
 #[derive(Clone, Copy, Debug, PartialEq, Eq)]
 pub enum PlanQuestion {
-    // all places in use in each table, and one of the queue for each series
+    // in each table all places that are in use, and in the queue one for each series
     FullTables = 1,
     // both days of the window in the range
     WindowInRange = 2,

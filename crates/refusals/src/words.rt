@@ -36,7 +36,7 @@ impl fmt::Display for PlanQuestion {
         match self {
             PlanQuestion::FullTables => write!(
                 f,
-                "are all places of the tables in use, and one of the queue for each series?"
+                "has each table all places in use, and the queue one for each series?"
             ),
             PlanQuestion::WindowInRange => write!(f, "are both days from 1900 to 2199?"),
             PlanQuestion::WindowInOrder => write!(f, "is the first day not after the last?"),
