@@ -53,6 +53,13 @@ impl ReportDue {
         ReportDue { faults }
     }
 
+    // How many faults it has.
+    pub fn faults(&self) -> usize
+        ensures { result ≡ self.now }
+    {
+        self.faults
+    }
+
     // Settles it with no report, and answers how many faults it had.
     pub fn waive(self) -> usize
         ensures { result ≡ self }
