@@ -1,0 +1,3 @@
+pub mod Counts
+pub mod Queued
+pub mod Moved
