@@ -1,0 +1,4 @@
+pub mod Growing
+pub mod Progress
+pub mod Known
+pub mod Added
