@@ -1,0 +1,5 @@
+pub mod Owning
+pub mod Past
+pub mod Asking
+pub mod Leading
+pub mod Telling
