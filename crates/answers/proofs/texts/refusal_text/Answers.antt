@@ -1,0 +1,5 @@
+-- The check finds it too; where it is written out, a wrong text is refused without a search.
+use Rattle.answers.proofs.texts.refusal_text.Goals as goal
+
+pub returns : goal.returns
+returns c = rw c.number-number.ensures at c.format.ensures.ok

@@ -1,0 +1,4 @@
+pub mod Advice
+pub mod Titles
+pub mod Marks
+pub mod Answers
