@@ -1,1 +1,4 @@
 pub mod Typed
+pub mod Names
+pub mod Scripts
+pub mod Misfits

@@ -1,7 +1,7 @@
 use Rattle.std.proofs.Common.{List, ℕ, map, rules}
 use Rattle.std.specs.Borrow.{Bor}
 use Rattle.std.proofs.lemmas.Iterator.{YieldsList-from_slice, YieldsList-from_map_by}
-use Rattle.season.proofs.read_command.Goals as goal
+use Rattle.season.proofs.typed.read_command.Goals as goal
 
 pub returns : goal.returns
 returns c =
