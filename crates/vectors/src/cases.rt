@@ -1,7 +1,7 @@
 // A case: a name, that of a shelf, and the bytes of a file.
 ghost use Rattle.std.specs.Prelude.{◌≡◌};
 
-use crate::escapes::plain_bytes;
+use case_lines::{first_word, plain_bytes};
 use std::alloc::{AllocError, Global};
 
 #[derive(Drop)]
@@ -29,12 +29,6 @@ impl Case {
     {
         self.file.as_slice()
     }
-}
-
-// A line's first word and what stands after the blank behind it.
-pub(crate) fn first_word(line: &[u8]) -> Option<(&[u8], &[u8])> {
-    let end = line.iter().position(|b| *b == b' ')?;
-    Some((&line[..end], &line[end + 1..]))
 }
 
 // The name, the shelf and the text of a case's line: `file NAME SHELF TEXT`.

@@ -3,49 +3,49 @@
 #![tactic(auto)]
 
 mod cases;
-mod escapes;
-mod shelves;
 mod timing;
 
-use calendar::Empty;
-use calendars::coptic::Coptic;
-use calendars::gregorian::Gregorian;
-use calendars::hebrew::Hebrew;
-use cases::{Case, case_on, first_word};
+use case_lines::{OverShelf, first_word, four, over_shelf};
+use cases::{Case, case_on};
 use commands::{Command, FileQuery, Numbers, read_command};
 use console::{AnswerError, answer_query};
+use events::RuleShelf;
 use icalendar::ReadError;
 use listing::file_text;
-use other_calendars::many_leaps::ManyLeaps;
-use other_calendars::same_name::SameName;
-use other_calendars::short_months::ShortMonths;
-use shelves::{eight, four_and, on};
 use std::alloc::{AllocError, Global};
 use std::io;
 use std::io::{BufRead, BufReader, Write};
 use std::time::Instant;
 use timing::ask;
 
-// What is said of a case's file over the shelf of a name, or none where no shelf has the name.
+// What is asked of a case's file, which is answered over its shelf.
+#[derive(Drop)]
+struct Said<'a> {
+    heap: Global,
+    query: FileQuery,
+    file: &'a [u8],
+}
+
+impl OverShelf for Said<'_> {
+    type Done = Result<Vec<u8>, AllocError>;
+
+    fn over<S: RuleShelf>(&self, shelf: &S) -> Result<Vec<u8>, AllocError> {
+        file_text(self.heap, shelf, self.query, self.file)
+    }
+}
+
+// What is said of a case's file, or none where no shelf has the name of its shelf.
 fn said_of_case(
     heap: Global,
     case: &Case,
     query: FileQuery,
 ) -> Result<Option<Vec<u8>>, AllocError> {
-    let file = case.file();
-    let text = match case.shelf() {
-        b"none" => file_text(heap, &Empty, query, file),
-        b"hebrew" => file_text(heap, &on(Hebrew, Empty), query, file),
-        b"hebrew-gregorian" => file_text(heap, &on(Hebrew, on(Gregorian, Empty)), query, file),
-        b"hebrew-coptic" => file_text(heap, &on(Hebrew, on(Coptic, Empty)), query, file),
-        b"four" => file_text(heap, &four_and(Empty), query, file),
-        b"four-leaps" => file_text(heap, &four_and(on(ManyLeaps, Empty)), query, file),
-        b"four-short" => file_text(heap, &four_and(on(ShortMonths, Empty)), query, file),
-        b"same-name-four" => file_text(heap, &on(SameName, four_and(Empty)), query, file),
-        b"eight" => file_text(heap, &eight(), query, file),
-        _ => return Ok(None),
+    let said = Said {
+        heap,
+        query,
+        file: case.file(),
     };
-    text.map(Some)
+    over_shelf(case.shelf(), &said).transpose()
 }
 
 // Answers a question of the last case, or of the calendars.
@@ -58,7 +58,7 @@ fn respond(rt: &HostRuntime, case: &Option<Case>, line: &[u8]) -> io::Result<()>
             };
         }
         (Ok(Command::File(_, _)), _) => return println!(rt; "not the last case"),
-        (Ok(Command::Dates(query)), _) => answer_query(rt.alloc(), &four_and(Empty), query),
+        (Ok(Command::Dates(query)), _) => answer_query(rt.alloc(), &four(), query),
         (Err(complaint), _) => Err(AnswerError::Complained(complaint)),
     };
     match answer {
@@ -83,19 +83,22 @@ fn time(rt: &HostRuntime, case: &Option<Case>, rounds: u32, line: &[u8]) -> io::
         return println!(rt; "not days of a case");
     };
     let begun = Instant::now(rt)?;
-    let asked = ask(
-        rt.alloc(),
-        &four_and(Empty),
-        case.file(),
-        first,
-        last,
-        rounds,
-    );
+    let asked = ask(rt.alloc(), &four(), case.file(), first, last, rounds);
     let micros = begun.elapsed(rt)?.as_micros();
     match asked {
         Ok(asked) => println!(rt; "{asked} questions in {micros} microseconds"),
         Err(ReadError::Refused(question)) => println!(rt; "{question}"),
         Err(ReadError::OutOfMemory(e)) => Err(e.into()),
+    }
+}
+
+// Answers a line that asks something, behind the line itself.
+fn answer(rt: &HostRuntime, case: &Option<Case>, line: &[u8]) -> io::Result<()> {
+    rt.stdout().write_all(line)?;
+    println!(rt; "")?;
+    match timed(line) {
+        Some((rounds, question)) => time(rt, case, rounds, question),
+        None => respond(rt, case, line),
     }
 }
 
@@ -105,14 +108,7 @@ fn main(rt: HostRuntime) -> io::Result<()> {
         let line = line?;
         match case_on(rt.alloc(), line.as_slice())? {
             Some(next) => case = Some(next),
-            None => {
-                rt.stdout().write_all(line.as_slice())?;
-                println!(rt; "")?;
-                match timed(line.as_slice()) {
-                    Some((rounds, question)) => time(&rt, &case, rounds, question)?,
-                    None => respond(&rt, &case, line.as_slice())?,
-                }
-            }
+            None => answer(&rt, &case, line.as_slice())?,
         }
     }
     Ok(())

@@ -1,7 +1,7 @@
 // A case's file, as it stands on a line.
 ghost use Rattle.std.specs.Prelude.{◌≡◌, IfOk, Some, None};
 ghost use Rattle.std.specs.Option.{option_map};
-ghost use Rattle.vectors.specs.Escapes.{escaped, plain, First};
+ghost use Rattle.case_lines.specs.Escapes.{escaped, plain, First};
 
 use std::alloc::{AllocError, Global};
 
@@ -29,7 +29,7 @@ fn first_byte(text: &[u8]) -> Option<(u8, &[u8])>
 }
 
 // The bytes that a text stands for, if each of its backslashes stands for one.
-pub(crate) fn plain_bytes(heap: Global, text: &[u8]) -> Result<Option<Vec<u8>>, AllocError>
+pub fn plain_bytes(heap: Global, text: &[u8]) -> Result<Option<Vec<u8>>, AllocError>
     ensures { IfOk result (λ bytes. option_map (λ v. v.items) bytes ≡ plain text.now) }
 {
     let mut bytes = Vec::new(heap);

@@ -1,8 +1,8 @@
 -- What the loop keeps: the check does not find an invariant, nor a measure.
 use Rattle.std.proofs.Common.{◌≡◌, ◌++◌, length, vec_items}
 use Rattle.std.specs.Option.{option_map}
-use Rattle.vectors.specs.Escapes.{plain}
-use Rattle.vectors.proofs.escapes.plain_bytes.Given as goal
+use Rattle.case_lines.specs.Escapes.{plain}
+use Rattle.case_lines.proofs.escapes.plain_bytes.Given as goal
 
 -- the bytes so far, and those of the text that is left
 abbrev pub invariant-loop-left : goal.invariant-loop-left

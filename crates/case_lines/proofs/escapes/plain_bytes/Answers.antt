@@ -1,7 +1,7 @@
 -- The check does not find it: one more byte.
 use Rattle.std.proofs.Common.{vec_items}
-use Rattle.vectors.proofs.Onward.{next_byte}
-use Rattle.vectors.proofs.escapes.plain_bytes.Goals as goal
+use Rattle.case_lines.proofs.Onward.{next_byte}
+use Rattle.case_lines.proofs.escapes.plain_bytes.Goals as goal
 
 pub loop-left-preserved : goal.loop-left-preserved
 loop-left-preserved c =

@@ -2,7 +2,7 @@
 use Rattle.std.proofs.Common.{◌≡◌, ℕ, List, [], ◌∷◌, ◌++◌, Some, None, Option, sym, ap, ◌∙◌}
 use lib.Seq.{append_snoc}
 use Rattle.std.specs.Option.{option_map}
-use Rattle.vectors.specs.Escapes.{plain, onto}
+use Rattle.case_lines.specs.Escapes.{plain, onto}
 
 moved : (done : List ℕ) (b : ℕ) (rest all : Option (List ℕ)) → option_map (λ l. done ++ l) (onto (Some b) rest) ≡ all → option_map (λ l. (done ++ b ∷ []) ++ l) rest ≡ all
 moved done b (Some bs) all h = ap Some (append_snoc done b bs) ∙ h
