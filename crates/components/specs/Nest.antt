@@ -2,7 +2,6 @@
 use Rattle.std.specs.Prelude.{ℕ, zero, suc, Bool, true, false, cond, ◌&&◌, List, [], ◌∷◌, Some, None, codes, Option}
 use Rattle.lines.specs.Lines.{Line}
 use Rattle.lines.specs.Property.{is_named, value}
-use Rattle.lines.specs.View.{text}
 use Rattle.text.specs.Letters.{same}
 use Rattle.components.specs.declared.kind.Kind as read
 use Rattle.components.specs.declared.kind.Kind.TheVariants as is
@@ -16,11 +15,11 @@ pub data Kind : Type 0 where
 abbrev pub kind : List ℕ → Kind
 kind bs = cond (is_named (codes "BEGIN") bs) (Begin (value bs)) (cond (is_named (codes "END") bs) (End (value bs)) Other)
 
--- the kind that a reader answers
-abbrev pub kind_read : read.Kind → Kind
-kind_read (is.Begin v) = Begin (text v)
-kind_read (is.End v) = End (text v)
-kind_read is.Other = Other
+-- the kind that a reader answers of a line
+abbrev pub kind_read : List ℕ → read.Kind → Kind
+kind_read bs is.Begin = Begin (value bs)
+kind_read bs is.End = End (value bs)
+kind_read bs is.Other = Other
 
 abbrev pub kinds : List Line → List Kind
 kinds [] = []

@@ -4,7 +4,7 @@ ghost use Rattle.lines.specs.View.{view, rest, line_of};
 ghost use Rattle.components.specs.Events.{own, events, event_at, picked};
 
 use crate::kind::{Kind, kind_of};
-use lines::{Cursor, named};
+use lines::{Cursor, named, value_of};
 use text::reads;
 
 // The BEGIN of the next event, from inside `inside` components; goes on to the line after it.
@@ -20,9 +20,9 @@ pub fn next_event<'a>(lines: &mut Cursor<'a>, inside: usize) -> Option<Cursor<'a
     let mut depth = inside;
     while let Some(line) = lines.next_line() {
         match kind_of(line) {
-            Kind::Begin(name) if depth == 1 && reads(name, b"VEVENT") => return Some(line),
-            Kind::Begin(_) => depth += 1,
-            Kind::End(_) => depth = depth.saturating_sub(1),
+            Kind::Begin if depth == 1 && reads(value_of(line), b"VEVENT") => return Some(line),
+            Kind::Begin => depth += 1,
+            Kind::End => depth = depth.saturating_sub(1),
             Kind::Other => {}
         }
     }
@@ -36,13 +36,15 @@ pub fn first_named<'a>(lines: Cursor<'a>, name: &[u8]) -> Option<Cursor<'a>>
     // Not a chain over `lines()`: its items do not say what stands after the line that is found, as is promised here.
     let mut lines = lines;
     let mut depth: usize = 0;
-    while let Some(line) = lines.next_line() {
+    // A line is looked at before the walk past it, so that the line that is found and the END are not walked.
+    while let Some(line) = lines.line() {
         match kind_of(line) {
-            Kind::Begin(_) => depth += 1,
-            Kind::End(_) => depth = depth.checked_sub(1)?,
+            Kind::Begin => depth += 1,
+            Kind::End => depth = depth.checked_sub(1)?,
             Kind::Other if depth == 0 && named(line, name) => return Some(line),
             Kind::Other => {}
         }
+        lines.skip_line();
     }
     None
 }

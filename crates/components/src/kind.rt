@@ -3,24 +3,24 @@ ghost use Rattle.std.specs.Prelude.{◌≡◌};
 ghost use Rattle.lines.specs.View.{text};
 ghost use Rattle.components.specs.Nest.{kind, kind_read};
 
-use lines::{Cursor, named, value_of};
+use lines::{Cursor, named};
 
-// A BEGIN or END with its value, or any other property.
+// A BEGIN, an END, or any other property.
 #[derive(Clone, Copy)]
-pub enum Kind<'a> {
-    Begin(Cursor<'a>),
-    End(Cursor<'a>),
+pub enum Kind {
+    Begin,
+    End,
     Other,
 }
 
-// What the line that begins here is.
-pub fn kind_of<'a>(line: Cursor<'a>) -> Kind<'a>
-    ensures { kind_read result ≡ kind (text line.entry) }
+// What the line that begins here is. The value of a BEGIN or END is not sought: most who ask do without it.
+pub fn kind_of(line: Cursor) -> Kind
+    ensures { kind_read (text line.entry) result ≡ kind (text line.entry) }
 {
     if named(line, b"BEGIN") {
-        Kind::Begin(value_of(line))
+        Kind::Begin
     } else if named(line, b"END") {
-        Kind::End(value_of(line))
+        Kind::End
     } else {
         Kind::Other
     }

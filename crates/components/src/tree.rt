@@ -6,7 +6,7 @@ ghost use Rattle.components.specs.Nest.{told, walk, kinds, one_calendar};
 ghost use Rattle.components.specs.Events.{events, events_in, is_event};
 
 use crate::kind::{Kind, kind_of};
-use lines::Cursor;
+use lines::{Cursor, value_of};
 use text::{reads, same_text};
 
 // A component whose BEGIN is read, and how many others stand open around it.
@@ -64,8 +64,8 @@ fn body(lines: &mut Cursor, opened: Open) -> Option<usize>
     let mut count = 0;
     while let Some(line) = lines.next_line() {
         match kind_of(line) {
-            Kind::Begin(name) => count += component(lines, opened.inside(name)?)?,
-            Kind::End(name) => return same_text(name, opened.name).then_some(count),
+            Kind::Begin => count += component(lines, opened.inside(value_of(line))?)?,
+            Kind::End => return same_text(value_of(line), opened.name).then_some(count),
             Kind::Other => {}
         }
     }
@@ -77,12 +77,14 @@ pub fn count_events(file: &[u8]) -> Option<usize>
     ensures { result ≡ (if one_calendar (logical_lines file.now) then Some (length (events_in (logical_lines file.now))) else None) }
 {
     let mut lines = Cursor::new(file);
-    let Kind::Begin(name) = kind_of(lines.next_line()?) else {
+    let line = lines.next_line()?;
+    if !matches!(kind_of(line), Kind::Begin) {
         return None;
-    };
+    }
+    let name = value_of(line);
     if !reads(name, b"VCALENDAR") {
         return None;
     }
     let count = component(&mut lines, Open { name, depth: 0 })?;
-    lines.next_line().is_none().then_some(count)
+    lines.line().is_none().then_some(count)
 }

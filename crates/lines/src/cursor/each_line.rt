@@ -1,21 +1,23 @@
 // The lines from a cursor on as an iterator.
-ghost use Rattle.std.specs.Prelude.{◌≡◌, List};
+ghost use Rattle.std.specs.Prelude.{◌≡◌, List, if◌then◌else◌};
 ghost use Rattle.lines.specs.Lines.{Line};
-ghost use Rattle.lines.specs.View.{view, view as lines_from, line_of};
+ghost use Rattle.lines.specs.View.{view, view as lines_from, rest as rest_from, line_of};
 
 use super::Cursor;
 use std::marker::Model;
 
-// The lines that are left, each as a cursor at its start.
+// The lines that are left, each as a cursor at its start. The walk past a line waits until the next is wanted.
 #[derive(Drop)]
 pub struct Lines<'a> {
-    rest: Cursor<'a>,
+    // the line that was given last, or the first
+    at: Cursor<'a>,
+    given: bool,
 }
 
 impl<'a> Model for Lines<'a> {
     ghost Value = { List Line };
 
-    ghost view = { λ l. lines_from l.rest };
+    ghost view = { λ l. (if l.given then (rest_from l.at).later else lines_from l.at) };
 }
 
 impl<'a> Cursor<'a> {
@@ -23,7 +25,10 @@ impl<'a> Cursor<'a> {
     pub fn lines(self) -> Lines<'a>
         ensures { result ≡ view self.entry }
     {
-        Lines { rest: self }
+        Lines {
+            at: self,
+            given: false,
+        }
     }
 }
 
@@ -37,6 +42,10 @@ impl<'a> Iterator for Lines<'a> {
     ghost remaining = { item_count (λ s. s) };
 
     fn next(&mut self) -> Option<Cursor<'a>> {
-        self.rest.next_line()
+        if self.given {
+            self.at.skip_line();
+        }
+        self.given = true;
+        self.at.line()
     }
 }

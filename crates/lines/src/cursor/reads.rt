@@ -49,16 +49,21 @@ impl<'a> Cursor<'a> {
         }
     }
 
+    // The line that begins here, if one does. Who looks at a line before the walk past it leaves with nothing walked.
+    pub fn line(&self) -> Option<Cursor<'a>>
+        ensures here { IfSome result (λ line. line ≡ self.now) }
+        ensures first { MatchOption result (view self.now ≡ []) (λ line. view self.now ≡ line_of line ∷ (rest line).later) }
+    {
+        (!self.rest.is_empty()).then_some(*self)
+    }
+
     // The line that begins here, if one does; goes on to the start of the next.
     pub fn next_line(&mut self) -> Option<Cursor<'a>>
         ensures here { IfSome result (λ line. line ≡ self.old) }
         ensures first { MatchOption result (view self.old ≡ []) (λ line. view self.old ≡ line_of line ∷ (rest line).later) }
         ensures later { MatchOption result (view self.new ≡ []) (λ line. view self.new ≡ (rest line).later) }
     {
-        if self.rest.is_empty() {
-            return None;
-        }
-        let line = *self;
+        let line = self.line()?;
         self.skip_line();
         Some(line)
     }
