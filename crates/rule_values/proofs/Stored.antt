@@ -8,7 +8,7 @@ use Rattle.rule_values.specs.Lists.{in_front, all_read, at_most}
 -- what is read after `xs`, as long as there are at most n
 abbrev pub stored_after : {X A : Type 0} → (n : ℕ) → (X → Option A) → List A → List X → Option (List A)
 stored_after n read xs [] = Some xs
-stored_after n read xs (t ∷ ts) = elim (read t) [ None ↦ None | Some x ↦ cond (ltb (length xs) n) (stored_after n read (xs ++ x ∷ []) ts) None ]
+stored_after n read xs (t ∷ ts) = cond (ltb (length xs) n) (elim (read t) [ None ↦ None | Some x ↦ stored_after n read (xs ++ x ∷ []) ts ]) None
 
 -- items in front of those that are read
 abbrev after : {A : Type 0} → List A → Option (List A) → Option (List A)
@@ -28,9 +28,9 @@ nothing true = refl
 nothing false = refl
 
 step : {X A : Type 0} (n : ℕ) (read : X → Option A) (xs : List A) (ts : List X) (o : Option A) → ((x : A) → length xs < n → Stands n read ts (xs ++ x ∷ [])) →
-    elim o [ None ↦ None | Some x ↦ cond (ltb (length xs) n) (stored_after n read (xs ++ x ∷ []) ts) None ]
+    cond (ltb (length xs) n) (elim o [ None ↦ None | Some x ↦ stored_after n read (xs ++ x ∷ []) ts ]) None
     ≡ cond (leb (length xs + suc (length ts)) n) (after xs (in_front o (all_read read ts))) None
-step n read xs ts None ih = sym (nothing (leb (length xs + suc (length ts)) n))
+step n read xs ts None ih = nothing (ltb (length xs) n) ∙ sym (nothing (leb (length xs + suc (length ts)) n))
 step n read xs ts (Some x) ih =
     ⊎_elim
     (λ room.

@@ -13,6 +13,10 @@ impl<T: Form + Blank, const N: usize> Form for ShortList<T, N> {
     fn read<B: Bytes>(text: B) -> Option<ShortList<T, N>> {
         let mut items = ShortList::new();
         for item in Pieces::of(text, b',') {
+            // before the read: an item for which there is no room may be long
+            if items.len() == N {
+                return None;
+            }
             items.push(T::read(item)?).ok()?;
         }
         Some(items)

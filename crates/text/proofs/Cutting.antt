@@ -1,7 +1,8 @@
 -- A text is cut at its first separator: a first piece, and the pieces of what stands past it.
 -- They stay: each is an induction, which the check does not make.
-use Rattle.std.proofs.Common.{◌≡◌, ℕ, true, false, cond, ◌||◌, eqb, List, [], ◌∷◌, Some, None, Option, MatchOption, IfSome, sym, refl, ap, ◌∙◌}
-use Rattle.text.specs.Pieces.{up_to, past, has, pieces, onto_first}
+use Rattle.std.proofs.Common.{◌≡◌, ℕ, true, false, cond, ◌||◌, eqb, List, [], ◌∷◌, drop, Some, None, Option, MatchOption, IfSome, sym, refl, ap, ◌∙◌}
+use Rattle.text.specs.Pieces.{up_to, past, has, pieces, onto_first, ahead}
+use Rattle.text.specs.declared.pieces.Pieces.{Pieces}
 
 pub cut : (mark : ℕ) (t : List ℕ) → pieces mark t ≡ up_to mark t ∷ cond (has mark t) (pieces mark (past mark t)) []
 cut mark [] = refl
@@ -22,3 +23,26 @@ next_piece left mark text (Some rest) f r =
     cut mark (left text)
     ∙ ap (λ b. up_to mark (left text) ∷ cond b (pieces mark (past mark (left text))) []) f
     ∙ ap (λ t. up_to mark (left text) ∷ pieces mark t) (sym r)
+
+-- from where the next piece begins, the pieces ahead are left
+module _ {X : Type 0} (left : X → List ℕ) (p now : Pieces X) where
+  -- the piece that was given is walked past
+  pub walked : (text : X) (next : Option X) → p.given ≡ true → p.at ≡ Some text → now ≡ record { at = next; given = p.given; mark = p.mark }
+      → MatchOption next (has p.mark (left text) ≡ false) (λ _. has p.mark (left text) ≡ true) → IfSome next (λ rest. left rest ≡ past p.mark (left text))
+      → ahead left p ≡ of left now.mark now.at
+  walked text next given stands is found rest =
+      ap (λ b. drop (cond b 1 0) (of left p.mark p.at)) given
+      ∙ ap (λ o. drop 1 (of left p.mark o)) stands
+      ∙ ap (drop 1) (next_piece left p.mark text next found rest)
+      ∙ ap (λ (s : Pieces X). of left s.mark s.at) (sym is)
+
+  -- none was given
+  pub stayed : p.given ≡ false → now ≡ p → ahead left p ≡ of left now.mark now.at
+  stayed given is = ap (λ b. drop (cond b 1 0) (of left p.mark p.at)) given ∙ ap (λ (s : Pieces X). of left s.mark s.at) (sym is)
+
+-- the first piece comes off
+pub first_off : {X : Type 0} (left : X → List ℕ) (mark : ℕ) (text : X) (o : Option X) → o ≡ Some text
+    → of left mark o ≡ up_to mark (left text) ∷ drop 1 (of left mark o)
+first_off left mark text o stands =
+    let e = ap (of left mark) stands ∙ cut mark (left text) in
+    e ∙ ap (λ ps. up_to mark (left text) ∷ drop 1 ps) (sym e)

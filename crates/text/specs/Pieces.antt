@@ -1,5 +1,6 @@
 -- The pieces of a text between separators.
-use Rattle.std.specs.Prelude.{ℕ, Bool, false, cond, ◌||◌, List, [], ◌∷◌, Some, None, Option, ◌==◌}
+use Rattle.std.specs.Prelude.{ℕ, Bool, false, cond, ◌||◌, List, [], ◌∷◌, drop, Some, None, Option, ◌==◌}
+use Rattle.text.specs.declared.pieces.Pieces.{Pieces}
 
 -- what a byte stands before; with no byte, nothing is left
 abbrev pub before : Option ℕ → List ℕ → List ℕ
@@ -32,3 +33,7 @@ onto_first b (p ∷ ps) = (b ∷ p) ∷ ps
 abbrev pub pieces : ℕ → List ℕ → List (List ℕ)
 pieces mark [] = [] ∷ []
 pieces mark (b ∷ bs) = cond (b == mark) ([] ∷ pieces mark bs) (onto_first b (pieces mark bs))
+
+-- what Pieces have yet to give: the pieces of the text that they stand in, less the first once it was given
+abbrev pub ahead : {B : Type 0} → (B → List ℕ) → Pieces B → List (List ℕ)
+ahead left p = drop (cond p.given 1 0) (elim p.at [ Some text ↦ pieces p.mark (left text) | None ↦ [] ])

@@ -1,10 +1,9 @@
 // Pieces of a text between separators.
-ghost use Rattle.std.specs.Prelude.{◌≡◌, ⊤, ◌==◌, ℕ, Bool, false, true, List, [], Some, None, MatchOption, IfSome};
-ghost use Rattle.text.specs.Pieces.{until, past, has, pieces};
+ghost use Rattle.std.specs.Prelude.{◌≡◌, ⊤, ◌==◌, ℕ, Bool, false, true, MatchOption, IfSome};
+ghost use Rattle.text.specs.Pieces.{until, past, has, pieces, ahead};
 
 use crate::Bytes;
 use std::alloc::AllocError;
-use std::marker::Model;
 
 // Which bytes end a part of a text. Types and not closures: `left` needs a function, and what a closure answers is a
 // relation.
@@ -67,26 +66,23 @@ pub fn after<B: Bytes>(bytes: B, mark: u8) -> Option<B>
     }
 }
 
-// The pieces between separators that are left of a text: those of what stands past the last separator that was read, or
-// none once there was none.
-#[derive(Drop)]
-pub struct Pieces<B: Bytes> {
-    rest: Option<B>,
+// The pieces between separators of a text, one after another. The walk to the end of a piece waits until the next one is
+// wanted: a reader may turn away from a piece before its end.
+#[derive(Copy)]
+pub struct Pieces<B> {
+    // where the piece that was given last begins, or the first one; none once no other follows
+    at: Option<B>,
+    given: bool,
     mark: u8,
-}
-
-impl<B: Bytes> Model for Pieces<B> {
-    ghost Value = { List (List ℕ) };
-
-    ghost view = { λ p. elim p.rest [ Some text ↦ pieces p.mark (B.Bytes.left text) | None ↦ [] ] };
 }
 
 impl<B: Bytes> Pieces<B> {
     pub fn of(text: B, mark: u8) -> Pieces<B>
-        ensures { result ≡ pieces mark (B.Bytes.left text) }
+        ensures { ahead B.Bytes.left result ≡ pieces mark (B.Bytes.left text) }
     {
         Pieces {
-            rest: Some(text),
+            at: Some(text),
+            given: false,
             mark,
         }
     }
@@ -97,27 +93,26 @@ impl<B: Bytes> Iterator for Pieces<B> {
 
     type Item = UpTo<B, Separator>;
 
-    ghost next_gives = { YieldsFirstBy ⟦<UpTo<B, Separator> as Bytes>⟧.left (λ s. s) };
+    ghost next_gives = { YieldsFirstBy ⟦<UpTo<B, Separator> as Bytes>⟧.left (ahead B.Bytes.left) };
 
-    ghost remaining = { item_count (λ s. s) };
+    ghost remaining = { item_count (ahead B.Bytes.left) };
 
     fn next(&mut self) -> Option<UpTo<B, Separator>> {
-        let rest = self.rest?;
-        self.rest = after(rest, self.mark);
-        Some(UpTo::new(rest, Separator(self.mark)))
+        if self.given {
+            self.at = after(self.at?, self.mark);
+        }
+        self.given = true;
+        Some(UpTo::new(self.at?, Separator(self.mark)))
     }
 }
 
-// By hand, since the view forgets the fields and a derive would need them back.
-impl<B: Bytes> Clone for Pieces<B> {
+// By hand: a derive would say of the clone only what B says of its own.
+impl<B: Copy> Clone for Pieces<B> {
     ghost is_clone = { λ x y. y ≡ x };
 
     ghost is_infallible = { λ _. ⊤ };
 
     fn clone(&self) -> Result<Pieces<B>, AllocError> {
-        Ok(Pieces {
-            rest: self.rest,
-            mark: self.mark,
-        })
+        Ok(*self)
     }
 }
