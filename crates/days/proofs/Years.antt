@@ -19,6 +19,16 @@ new_year_later y z h =
     (λ (l : z ≤ y + 1). let e : y + 1 ≡ z = omega arith in rw e (omega arith))
     (cases_lt (y + 1) z)
 
+-- the days of the calendar's years
+pub year_bounds : (n y : ℕ) → InYear n y → (1 ≤ n) × (n ≤ 3652059)
+year_bounds n y h =
+    let f = h.year_from in
+    let b = h.begun in
+    let t = h.year_to in
+    let o = h.not_over in
+    let l = new_year_later y 10000 (omega arith) in
+    (omega arith, omega arith)
+
 -- a day lies in one year only
 year_once : (n y z : ℕ) → InYear n y → InYear n z → y ≡ z
 year_once n y z f g =

@@ -1,5 +1,6 @@
 -- Reading a file event by event. The library has no lemmas of verdicts.
-use Rattle.std.proofs.Common.{◌≡◌, ℕ, List, [], ◌∷◌, ◌++◌, map, length, Some, None, Ok, Option, Result, sym, refl, ap, ◌∙◌, arith}
+use Rattle.std.proofs.Common.{◌≡◌, ◌≤◌, ℕ, Bool, true, false, cond, leb, List, [], ◌∷◌, ◌++◌, map, length, Some, None, Ok, Option, Result, sym, refl, ap, ◌∙◌, arith}
+use Rattle.std.proofs.lemmas.Bool.{leb-true}
 use lib.Seq.{append_snoc}
 use Rattle.calendar.specs.Sheets.{Almanac}
 use Rattle.components.specs.Events.{Event}
@@ -7,6 +8,7 @@ use Rattle.series.specs.declared.record.Series.{Series}
 use Rattle.series.specs.Record.{Accepted}
 use Rattle.icalendar.specs.declared.fault.Fault.{Fault}
 use Rattle.refusals.specs.declared.asked.FileQuestion.{FileQuestion}
+use Rattle.refusals.specs.declared.asked.FileQuestion.TheVariants.{Size}
 use Rattle.icalendar.specs.Files.{asked, first_failed, unless_failed, file_read, events_of}
 use Rattle.icalendar.specs.Verdicts.{Says}
 use Rattle.icalendar.specs.Read.{AllSay}
@@ -33,3 +35,11 @@ not_failed (Some q) m n e = absurd (let z : ◌≡◌ {A = ℕ} 0 1 = cc in omeg
 
 pub counted : (bs : List ℕ) (n : ℕ) → Ok n ≡ file_read bs → file_read bs ≡ Ok (length (events_of bs))
 counted bs n e = ap (λ o. unless_failed o (length (events_of bs))) (not_failed (first_failed asked bs) (length (events_of bs)) n e)
+
+first_passed : (b : Bool) (rest : Option FileQuestion) → cond b rest (Some Size) ≡ None → b ≡ true
+first_passed true rest e = refl
+first_passed false rest e = absurd (let z : ◌≡◌ {A = ℕ} 0 1 = cc in omega arith)
+
+-- it has as few bytes as a file may have
+pub small : (bs : List ℕ) (n : ℕ) → Ok n ≡ file_read bs → length bs ≤ 60000
+small bs n e = leb-true (length bs) 60000 (first_passed (leb (length bs) 60000) _ (not_failed (first_failed asked bs) (length (events_of bs)) n e))

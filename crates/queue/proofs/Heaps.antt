@@ -19,6 +19,14 @@ module _ {X : Type 0} (before : X → X → Bool) where
       → (d : X) → before (get_or xs i d) (get_or xs j d) ≡ b
   tells xs i j x y r b p q e f t u d = (λ k. before (sym (get_or_read xs i x p e d) k) (sym (get_or_read xs j y q f d) k)) ∙ (sym t ∙ u)
 
+  -- the entry at j has found its place
+  pub closes : (xs : List X) (j n : ℕ) → Follows before xs j → Leads before xs j j n → HeapedBut before xs j n → Heaped before xs n
+  closes xs j n follows leads h = λ p k d a b f. ⊎_elim
+      (λ e. alike refl (ap (λ m. get_or xs m d) e) (leads k d (omega arith) (omega arith) f))
+      (λ u. ⊎_elim
+      (λ e. alike (ap (λ m. get_or xs m d) e) refl (follows p d (omega arith) (omega arith)))
+      (λ v. h.0 p k d a b f u v) (cases_eq k j)) (cases_eq p j)
+
   -- lists that agree on their first n places
   pub heaped_same : (xs ys : List X) (n : ℕ) → ((k : ℕ) (d : X) → k < n → get_or ys k d ≡ get_or xs k d) → Heaped before xs n → Heaped before ys n
   heaped_same xs ys n e h p k d a b f = alike (e k d f) (e p d (omega arith)) (h p k d a b f)

@@ -1,6 +1,6 @@
 -- A text is cut at its first separator: a first piece, and the pieces of what stands past it.
 -- They stay: each is an induction, which the check does not make.
-use Rattle.std.proofs.Common.{◌≡◌, ℕ, true, false, cond, ◌||◌, eqb, List, [], ◌∷◌, drop, Some, None, Option, MatchOption, IfSome, sym, refl, ap, ◌∙◌}
+use Rattle.std.proofs.Common.{◌≡◌, ◌<◌, ℕ, true, false, cond, ◌||◌, eqb, List, [], ◌∷◌, length, drop, Some, None, Option, MatchOption, IfSome, sym, refl, ap, ◌∙◌, arith}
 use Rattle.text.specs.Pieces.{up_to, past, has, pieces, onto_first, ahead}
 use Rattle.text.specs.declared.pieces.Pieces.{Pieces}
 
@@ -9,6 +9,13 @@ cut mark [] = refl
 cut mark (b ∷ bs) =
     elim (eqb b mark) as (λ e. cond e ([] ∷ pieces mark bs) (onto_first b (pieces mark bs)) ≡ cond e [] (b ∷ up_to mark bs) ∷ cond (e || has mark bs) (pieces mark (cond e bs (past mark bs))) [])
     [ true ↦ refl | false ↦ ap (onto_first b) (cut mark bs) ]
+
+-- what stands past a separator is shorter
+pub shorter : (mark : ℕ) (t : List ℕ) → has mark t ≡ true → length (past mark t) < length t
+shorter mark [] h = absurd (let z : ◌≡◌ {A = ℕ} 0 1 = cc in omega arith)
+shorter mark (b ∷ bs) h =
+    (elim (eqb b mark) as (λ e. (e || has mark bs) ≡ true → length (cond e bs (past mark bs)) < length (b ∷ bs))
+    [ true ↦ (λ _. omega arith) | false ↦ (λ k. let s = shorter mark bs k in omega arith) ]) h
 
 -- the pieces of the text that is left, if one is
 abbrev pub of : {X : Type 0} → (X → List ℕ) → ℕ → Option X → List (List ℕ)
