@@ -29,11 +29,12 @@ pub fn weekday_passes(rule: &Rule, day: u32) -> bool
             .any(|by_day| on_weekday(day, *by_day))
 }
 
-// Whether BYMONTH, as a limit, lets a month pass.
+// Whether BYMONTH, as a limit, lets a month pass. `contains` would compare the code with the whole list; `any` ends at the
+// first that is the same.
 pub fn code_passes(rule: &Rule, code: MonthCode) -> bool
     ensures { result ≡ code_passes rule.now code }
 {
-    rule.parts.months.is_empty() || rule.parts.months.items().contains(&code)
+    rule.parts.months.is_empty() || rule.parts.months.items().iter().any(|other| *other == code)
 }
 
 // Whether a value names the day of a month of that length. Two numbers that two tests take: a type would be no plainer.
