@@ -1,7 +1,7 @@
 -- Days added to a queue: nothing, one day, one after another, and tests that say the same.
-use Rattle.std.proofs.Common.{◌≡◌, ℕ, ◌+◌, ◌≤◌, Bool, false, ◌||◌, eqb, sym, refl, ◌∙◌, subst, inl, inr, ⊎_elim, arith}
+use Rattle.std.proofs.Common.{◌≡◌, ℕ, ◌+◌, ◌≤◌, Bool, true, false, ◌||◌, ◌&&◌, eqb, sym, refl, ap, ◌∙◌, subst, inl, inr, ⊎_elim, arith}
 use Rattle.std.specs.List.{ContainsAt as Has}
-use Rattle.std.proofs.lemmas.Bool.{eqb-true, eq-eqb, or_cases, or_left, or_right, both_ways}
+use Rattle.std.proofs.lemmas.Bool.{and_right, cases_Bool, eqb-true, eq-eqb, or_cases, or_left, or_right, both_ways}
 use Rattle.queue.specs.Lent.{Holding, Added}
 use Rattle.queue.proofs.Members.{with_itself, with_keeps, with_only}
 use Rattle.rule_months.specs.Filling.{Adds}
@@ -53,3 +53,10 @@ adds_same old new m k f g h e x =
       added = λ n t. x.added n (e n ∙ t);
       only = λ n p. ⊎_elim (λ q. inl q) (λ q. inr (sym (e n) ∙ q)) (x.only n p);
     }
+
+-- a limit on the one day is a limit on each
+pub limit_one : (p : ℕ → Bool) (n d : ℕ) → (p d && eqb n d) ≡ (p n && eqb n d)
+limit_one p n d =
+    ⊎_elim (λ (t : eqb n d ≡ true). let e : n ≡ d = eqb-true n d t in ap (λ (k : ℕ). p k && eqb n d) (sym e))
+    (λ (t : eqb n d ≡ false). and_right (p d) (eqb n d) t ∙ sym (and_right (p n) (eqb n d) t))
+    (cases_Bool (eqb n d))
