@@ -60,12 +60,7 @@ impl<A: Source, B: Source> Source for Union<A, B> {
     fn next(&self, from: u32) -> Option<u32> {
         let one = self.one.next(from);
         let other = self.other.next(from);
-        // `one.into_iter().chain(other).min()` would walk two iterators for two answers.
-        match (one, other) {
-            (Some(a), Some(b)) => Some(a.min(b)),
-            (Some(a), None) => Some(a),
-            (None, b) => b,
-        }
+        one.into_iter().chain(other).min()
     }
 }
 
