@@ -1,9 +1,13 @@
 // The days of a series.
 ghost use Rattle.std.specs.Prelude.{◌≡◌, IfOk};
+ghost use Rattle.calendar.specs.Shelves.{almanac_at};
 ghost use Rattle.sources.specs.Sets.{Found};
+ghost use Rattle.sources.specs.Events.{event_days, limit_in, Kept};
+ghost use Rattle.rules.specs.Meaning.{gives};
 ghost use Rattle.series.specs.Record.{series_days, days_between, as_kept, Ready};
 
-use crate::record::Series;
+use crate::record::{Recurrence, Series};
+use days::RangeDay;
 use events::{RuleShelf, ShelfRule};
 use sources::{Amendments, Ending, Event, Single, Source};
 use std::alloc::{AllocError, Global};
@@ -19,6 +23,30 @@ fn as_kept(ending: Ending) -> Ending
     }
 }
 
+// The least day at or after `from` of an event with a rule. Apart from `next_day`, so that an event without one, which is
+// asked in a few steps, does not lay this one out.
+fn next_ruled<S: RuleShelf>(
+    shelf: &S,
+    recurrence: &Recurrence,
+    start: RangeDay,
+    amendments: Amendments,
+    from: u32,
+) -> Option<u32>
+    ensures { Kept (gives (almanac_at (S.Shelf.held shelf.now) recurrence.now.place) recurrence.now.rule start) recurrence.now.ending → Found (event_days (gives (almanac_at (S.Shelf.held shelf.now) recurrence.now.place) recurrence.now.rule start) (limit_in recurrence.now.ending) amendments.entry.added.now amendments.entry.excluded.now) from result }
+{
+    let event = Event {
+        rule: ShelfRule {
+            shelf,
+            place: recurrence.place,
+            rule: &recurrence.rule,
+            start,
+        },
+        ending: as_kept(recurrence.ending),
+        amendments,
+    };
+    event.next(from)
+}
+
 // The least day at or after `from` that the series gives. What a record in its owner's table keeps with its ending may be
 // wrong, and then the answer may be too.
 pub fn next_day<S: RuleShelf>(shelf: &S, series: &Series, from: u32) -> Option<u32>
@@ -29,17 +57,7 @@ pub fn next_day<S: RuleShelf>(shelf: &S, series: &Series, from: u32) -> Option<u
         excluded: series.exdates.items(),
     };
     match &series.recurrence {
-        Some(recurrence) => Event {
-            rule: ShelfRule {
-                shelf,
-                place: recurrence.place,
-                rule: &recurrence.rule,
-                start: series.start,
-            },
-            ending: as_kept(recurrence.ending),
-            amendments,
-        }
-        .next(from),
+        Some(recurrence) => next_ruled(shelf, recurrence, series.start, amendments, from),
         // Without a rule DTSTART alone takes its place.
         None => Event {
             rule: Single {
