@@ -2,9 +2,12 @@
 use Rattle.std.specs.Prelude.{ℕ, zero, suc, Bool, true, false, cond, ◌&&◌, List, [], ◌∷◌, Some, None, codes, Option}
 use Rattle.lines.specs.Lines.{Line}
 use Rattle.lines.specs.Property.{is_named, value}
+use Rattle.lines.specs.View.{text}
 use Rattle.text.specs.Letters.{same}
 use Rattle.components.specs.declared.kind.Kind as read
 use Rattle.components.specs.declared.kind.Kind.TheVariants as is
+use Rattle.components.specs.declared.delimiter.Delimiter as delimiter
+use Rattle.components.specs.declared.delimiter.Delimiter.TheVariants as at
 
 -- what a line is: a BEGIN or END with its value, or any other property
 pub data Kind : Type 0 where
@@ -15,11 +18,17 @@ pub data Kind : Type 0 where
 abbrev pub kind : List ℕ → Kind
 kind bs = cond (is_named (codes "BEGIN") bs) (Begin (value bs)) (cond (is_named (codes "END") bs) (End (value bs)) Other)
 
--- the kind that a reader answers of a line
-abbrev pub kind_read : List ℕ → read.Kind → Kind
-kind_read bs is.Begin = Begin (value bs)
-kind_read bs is.End = End (value bs)
-kind_read bs is.Other = Other
+-- the kind that a reader answers
+abbrev pub kind_read : read.Kind → Kind
+kind_read (is.Begin v) = Begin (text v)
+kind_read (is.End v) = End (text v)
+kind_read is.Other = Other
+
+-- the kind of a line of which a reader answers whether it is a BEGIN, an END or neither
+abbrev pub kind_delimited : List ℕ → delimiter.Delimiter → Kind
+kind_delimited bs at.Begin = Begin (value bs)
+kind_delimited bs at.End = End (value bs)
+kind_delimited bs at.Other = Other
 
 abbrev pub kinds : List Line → List Kind
 kinds [] = []

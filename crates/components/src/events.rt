@@ -3,7 +3,7 @@ ghost use Rattle.std.specs.Prelude.{◌≡◌, ◌<◌, ◌≤◌, [], ◌∷◌
 ghost use Rattle.lines.specs.View.{view, rest, line_of};
 ghost use Rattle.components.specs.Events.{own, events, event_at, picked};
 
-use crate::kind::{Kind, kind_of};
+use crate::delimiter::{Delimiter, delimiter_of};
 use lines::{Cursor, named, value_of};
 use text::reads;
 
@@ -19,11 +19,11 @@ pub fn next_event<'a>(lines: &mut Cursor<'a>, inside: usize) -> Option<Cursor<'a
     // Not one walk with `first_named`: an END at level 0 ends that one, and this one goes on.
     let mut depth = inside;
     while let Some(line) = lines.next_line() {
-        match kind_of(line) {
-            Kind::Begin if depth == 1 && reads(value_of(line), b"VEVENT") => return Some(line),
-            Kind::Begin => depth += 1,
-            Kind::End => depth = depth.saturating_sub(1),
-            Kind::Other => {}
+        match delimiter_of(line) {
+            Delimiter::Begin if depth == 1 && reads(value_of(line), b"VEVENT") => return Some(line),
+            Delimiter::Begin => depth += 1,
+            Delimiter::End => depth = depth.saturating_sub(1),
+            Delimiter::Other => {}
         }
     }
     None
@@ -38,11 +38,11 @@ pub fn first_named<'a>(lines: Cursor<'a>, name: &[u8]) -> Option<Cursor<'a>>
     let mut depth: usize = 0;
     // A line is looked at before the walk past it, so that the line that is found and the END are not walked.
     while let Some(line) = lines.line() {
-        match kind_of(line) {
-            Kind::Begin => depth += 1,
-            Kind::End => depth = depth.checked_sub(1)?,
-            Kind::Other if depth == 0 && named(line, name) => return Some(line),
-            Kind::Other => {}
+        match delimiter_of(line) {
+            Delimiter::Begin => depth += 1,
+            Delimiter::End => depth = depth.checked_sub(1)?,
+            Delimiter::Other if depth == 0 && named(line, name) => return Some(line),
+            Delimiter::Other => {}
         }
         lines.skip_line();
     }

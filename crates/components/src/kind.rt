@@ -3,25 +3,24 @@ ghost use Rattle.std.specs.Prelude.{◌≡◌};
 ghost use Rattle.lines.specs.View.{text};
 ghost use Rattle.components.specs.Nest.{kind, kind_read};
 
-use lines::{Cursor, named};
+use crate::delimiter::{Delimiter, delimiter_of};
+use lines::{Cursor, value_of};
 
-// A BEGIN, an END, or any other property.
+// A BEGIN or END with its value, or any other property.
 #[derive(Clone, Copy)]
-pub enum Kind {
-    Begin,
-    End,
+pub enum Kind<'a> {
+    Begin(Cursor<'a>),
+    End(Cursor<'a>),
     Other,
 }
 
-// What the line that begins here is. The value of a BEGIN or END is not sought: most who ask do without it.
-pub fn kind_of(line: Cursor) -> Kind
-    ensures { kind_read (text line.entry) result ≡ kind (text line.entry) }
+// What the line that begins here is, for who wants the value of each BEGIN and END.
+pub fn kind_of<'a>(line: Cursor<'a>) -> Kind<'a>
+    ensures { kind_read result ≡ kind (text line.entry) }
 {
-    if named(line, b"BEGIN") {
-        Kind::Begin
-    } else if named(line, b"END") {
-        Kind::End
-    } else {
-        Kind::Other
+    match delimiter_of(line) {
+        Delimiter::Begin => Kind::Begin(value_of(line)),
+        Delimiter::End => Kind::End(value_of(line)),
+        Delimiter::Other => Kind::Other,
     }
 }

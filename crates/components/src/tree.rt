@@ -5,6 +5,7 @@ ghost use Rattle.lines.specs.View.{view, text};
 ghost use Rattle.components.specs.Nest.{told, walk, kinds, one_calendar};
 ghost use Rattle.components.specs.Events.{events, events_in, is_event};
 
+use crate::delimiter::{Delimiter, delimiter_of};
 use crate::kind::{Kind, kind_of};
 use lines::{Cursor, value_of};
 use text::{reads, same_text};
@@ -64,8 +65,8 @@ fn body(lines: &mut Cursor, opened: Open) -> Option<usize>
     let mut count = 0;
     while let Some(line) = lines.next_line() {
         match kind_of(line) {
-            Kind::Begin => count += component(lines, opened.inside(value_of(line))?)?,
-            Kind::End => return same_text(value_of(line), opened.name).then_some(count),
+            Kind::Begin(name) => count += component(lines, opened.inside(name)?)?,
+            Kind::End(name) => return same_text(name, opened.name).then_some(count),
             Kind::Other => {}
         }
     }
@@ -78,7 +79,7 @@ pub fn count_events(file: &[u8]) -> Option<usize>
 {
     let mut lines = Cursor::new(file);
     let line = lines.next_line()?;
-    if !matches!(kind_of(line), Kind::Begin) {
+    if !matches!(delimiter_of(line), Delimiter::Begin) {
         return None;
     }
     let name = value_of(line);

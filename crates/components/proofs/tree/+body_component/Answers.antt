@@ -2,7 +2,6 @@
 -- fit.
 use Rattle.std.proofs.Common.{◌+◌, length, sym, ap, ◌∙◌, arith}
 use Rattle.lines.specs.View.{view, text}
-use Rattle.components.specs.Nest.{Begin}
 use Rattle.components.proofs.Counting.{few, begin_walk, begin_count}
 use Rattle.components.proofs.tree.+body_component.Goals as goal
 
@@ -13,7 +12,7 @@ pub body-overflow_add-count : goal.body-overflow_add-count
 body-overflow_add-count t c =
     let line = c.in-Some.ensures in
     let i = c.in_ok-inside-in-Begin.ensures in
-    let k = begin_count (view c.loop-line.lines) _ _ _ (c.args.opened.depth + 1) (text c.value_of.result) line.first line.later (sym (ap Begin c.value_of.ensures ∙ c.in-Begin.ensures)) in
+    let k = begin_count (view c.loop-line.lines) _ _ _ (c.args.opened.depth + 1) (text c.in-Begin.name) line.first line.later (sym c.in-Begin.ensures) in
     let n = rw (i.deeper, i.named) at c.in_ok-count-in-Begin.ensures.counted in
     omega (arith, k, n, few (c.args.opened.depth + 1) c.loop-line.lines, c.loop-line.invariant.1, few (c.args.opened.depth + 1) c.args.lines.now)
 
@@ -23,8 +22,8 @@ body-loop-line-preserved-in-Begin t c =
     let inner = c.in_ok-inside-in-Begin.field-0 in
     let i = c.in_ok-inside-in-Begin.ensures in
     let r = c.in_ok-count-in-Begin.ensures in
-    let w = begin_walk (view c.loop-line.lines) _ _ _ c.args.opened.depth inner.depth (text c.args.opened.name) (text c.value_of.result) _ _ line.first line.later (sym (ap Begin c.value_of.ensures ∙ c.in-Begin.ensures)) i.deeper inner.within (ap text i.named) r.left in
-    let k = begin_count (view c.loop-line.lines) _ _ _ (c.args.opened.depth + 1) (text c.value_of.result) line.first line.later (sym (ap Begin c.value_of.ensures ∙ c.in-Begin.ensures)) in
+    let w = begin_walk (view c.loop-line.lines) _ _ _ c.args.opened.depth inner.depth (text c.args.opened.name) (text c.in-Begin.name) _ _ line.first line.later (sym c.in-Begin.ensures) i.deeper inner.within (ap text i.named) r.left in
+    let k = begin_count (view c.loop-line.lines) _ _ _ (c.args.opened.depth + 1) (text c.in-Begin.name) line.first line.later (sym c.in-Begin.ensures) in
     let n = rw (i.deeper, i.named) at r.counted in
     (sym w ∙ c.loop-line.invariant.0, omega (arith, k, n, c.loop-line.invariant.1), omega (arith, ap length line.first, ap length line.later, r.on, c.loop-line.invariant.2))
 
@@ -33,5 +32,5 @@ body-returns-in_err-count-in-Begin-clause-left t c =
     let line = c.in-Some.ensures in
     let inner = c.in_ok-inside-in-Begin.field-0 in
     let i = c.in_ok-inside-in-Begin.ensures in
-    let w = begin_walk (view c.loop-line.lines) _ _ _ c.args.opened.depth inner.depth (text c.args.opened.name) (text c.value_of.result) _ _ line.first line.later (sym (ap Begin c.value_of.ensures ∙ c.in-Begin.ensures)) i.deeper inner.within (ap text i.named) c.in_err-count-in-Begin.ensures.left in
+    let w = begin_walk (view c.loop-line.lines) _ _ _ c.args.opened.depth inner.depth (text c.args.opened.name) (text c.in-Begin.name) _ _ line.first line.later (sym c.in-Begin.ensures) i.deeper inner.within (ap text i.named) c.in_err-count-in-Begin.ensures.left in
     rw c.from_residual-in_err-count-in-Begin.ensures (sym w ∙ c.loop-line.invariant.0)
