@@ -1,4 +1,4 @@
-// Where a line opens or closes a component.
+// Whether a line opens a component, closes one, or neither.
 ghost use Rattle.std.specs.Prelude.{◌≡◌};
 ghost use Rattle.lines.specs.View.{text};
 ghost use Rattle.components.specs.Nest.{kind, kind_delimited};

@@ -1,4 +1,4 @@
-// A line with its value, to the components around it.
+// A BEGIN and an END, read with their values.
 use crate::kind::{Kind, kind_of};
 use lines::Cursor;
 use text::reads;
